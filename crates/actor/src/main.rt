@@ -4,7 +4,6 @@
 use flume::{Receiver, Runtime, Sender, Waits};
 use std::{io, thread};
 
-/// A request to the owner of the account, who sends the answer into `reply`.
 #[derive(Drop)]
 enum Request<R: Waits> {
     /// Adds this much. The answer is the balance.
@@ -13,7 +12,7 @@ enum Request<R: Waits> {
     PayOut { amount: u64, reply: Sender<bool, R> },
 }
 
-/// An account as others see it: each call is a request to the thread that owns it.
+/// Each call is a request to the thread that owns the account.
 #[derive(Drop)]
 struct Account<R: Waits> {
     rt: R,
@@ -69,7 +68,7 @@ fn save<R: Runtime>(account: &Account<R>) -> io::Result<()> {
     Ok(())
 }
 
-/// Owns the account, and answers requests until nobody can send one. Then it says what is left.
+/// Answers requests until nobody can send one, and returns what is left.
 fn own<R: Waits>(received: &Receiver<Request<R>, R>) -> io::Result<u64> {
     let mut balance = 0;
     let mut requests = received.iter();
@@ -80,7 +79,6 @@ fn own<R: Waits>(received: &Receiver<Request<R>, R>) -> io::Result<u64> {
     Ok(balance)
 }
 
-/// Answers a request, and returns the balance after it.
 fn answer<R: Waits>(balance: u64, request: Request<R>) -> u64 {
     match request {
         Request::PayIn { amount, reply } => {

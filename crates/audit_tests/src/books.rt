@@ -1,6 +1,5 @@
 //! Scripts of books of two seats, which make the steps in turn. The last step is refused memory,
-//! growth by growth: it is refused as a whole, or the channel refuses it and the book has that
-//! answer.
+//! growth by growth: as a whole, or by the channel, whose answer the book has.
 ghost use Rattle.std.specs.Prelude.{◌≡◌};
 
 use crate::fixtures::{Heap, holds, unwrap};
@@ -71,7 +70,6 @@ type TestBook<'h, L> = Book<u64, L, Ones, Heap<'h>>;
 
 type Seats<'h, L> = Vec<Seat<u64, L, Ones, Heap<'h>>, Heap<'h>>;
 
-// Reads a line: the step, what it answers, and what if the channel refuses it.
 fn line_of<'s>(rt: &impl Abort, line: &'s str) -> (Step<u64>, &'s str, &'s str) {
     let (step, answers) = line.split_once(" -> ").expect(rt, "there is an arrow");
     let (answer, refusal) = answers.split_once(" | ").unwrap_or((answers, "none"));
@@ -90,8 +88,7 @@ fn reply_is<'h>(
     text.as_str().trim_end() == wanted
 }
 
-// Makes the step of a line by the next seat, with these growths refused. It answers as it should,
-// and a refused one leaves the channel's room as it was.
+// Makes the step of a line by the next seat. A refused one leaves the channel's room as it was.
 fn make_step<'h, L: Ledger>(
     rt: &impl Abort,
     (title, heap): (&str, Heap<'h>),
@@ -117,8 +114,7 @@ fn make_step<'h, L: Ledger>(
     (is_whole, is_refused)
 }
 
-// Makes the steps of a script on a new book; the last one with these growths refused, and if one
-// was, once more with memory. The book settles.
+// Plays a script on a new book, its last step with these growths refused. The book settles.
 fn play<L: Ledger, R: Abort>(
     rt: &R,
     heap: Heap<'_>,
@@ -149,8 +145,7 @@ fn play<L: Ledger, R: Abort>(
     refused
 }
 
-// Plays a script once for each growth of its last step. Some are refused as a whole, and some by
-// the channel if the script says so.
+// Some growths are refused as a whole, and some by the channel if the script says so.
 fn each_growth<R: Abort>(rt: &R, alloc: Global, block: &str, is_one: bool) {
     let (heap, script) = (Counting::new(alloc), BookScript(block));
     let (mut whole, mut by_channel) = (0u64, false);

@@ -6,9 +6,8 @@ use flume_model::step::{Reply, Step};
 use std::alloc::Global;
 use std::process::Abort;
 
-// The length of a history, lists of receipts, and the least number at which they disagree, or none.
-// A receipt is a number and the letter of its entry. The history has the first entries of `a`, `b`
-// and `c`; `d` is `c` with another reply, and `e` is `b` with another step.
+// The length of a history `a`, `b`, `c`, lists of receipts, each a number and the letter of its
+// entry, and the least number at which they disagree, or none.
 const ROWS: &str = "
 0: -> none
 0: 0=d -> 0

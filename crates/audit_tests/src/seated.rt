@@ -14,8 +14,7 @@ use test_support::counting::Counting;
 // More growths than a new book has.
 const GROWTHS: u64 = 9;
 
-// What closing a new book of two seats answers if this many are handed in. `None`: no book is
-// made.
+// What closing a new book of two seats answers if this many are handed in. `None`: it isn't made.
 fn close_new_book<L: Ledger>(heap: Heap<'_>, blank: Blank, seat_count: usize) -> Option<Closed>
     requires name { blank.name ≡ L.name }
     requires parts { blank.parts ≡ L.parts }
@@ -37,8 +36,7 @@ fn a_missing_seat_is_found(rt: HostRuntime) {
     }
 }
 
-// Opens and closes a book once for each growth, with that one refused, and all after it up to
-// `last`. How many were refused.
+// How many growths of a new book are refused: each alone, or with all after it up to `last`.
 fn count_refused(rt: &impl Abort, alloc: Global, last: Option<u64>) -> u64 {
     let heap = Counting::new(alloc);
     for growth in 1..GROWTHS {

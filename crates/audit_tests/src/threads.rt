@@ -31,7 +31,6 @@ const RECENT: u64 = 8;
 // More tickets than two threads are issued.
 const TICKETS: usize = 2 * STEPS;
 
-// How many steps follow those of the threads.
 const LAST_STEPS: usize = 2 * TICKETS + 11;
 
 // How often replies to random steps begin so at least.
@@ -57,27 +56,21 @@ const LEAST: &[(&str, u64)] = &[
 
 type ReturnedSeats<L> = Mutex<Vec<Seat<u64, L>>>;
 
-// What threads do on a channel. With the seed 0 each sends and tries to receive in turn; with
-// another it makes random steps.
-#[derive(Clone, Copy, Drop)]
-struct Plan {
-    capacity: Option<usize>,
-    steps: usize,
-    seed: u64,
-}
+// A capacity, how many steps each thread makes, and a seed. With the seed 0 each sends and tries to
+// receive in turn; else it makes random steps.
+type Plan = (Option<usize>, usize, u64);
 
-// The step of this number. Of eight random ones one sets a capacity from 0 to 4, and three
-// withdraw.
-fn step_of(plan: Plan, random_steps: &mut RandomSteps, number: usize) -> Step<u64> {
+// Of eight random steps one sets a capacity from 0 to 4, and three withdraw.
+fn step_of(seed: u64, random_steps: &mut RandomSteps, number: usize) -> Step<u64> {
     let last = random_steps.last_ticket;
-    match (plan.seed, number % 8) {
+    match (seed, number % 8) {
         (0, number) if number % 2 == 0 => Step::TrySend(number as u64),
         (0, _) => Step::TryRecv,
         (_, 3) => Step::SetCapacity(number / 8 % 5),
         (_, 1 | 5) => Step::Withdraw(last.saturating_sub(number as u64 / 8 % RECENT)),
         (_, 7) => Step::WithdrawSend(last.saturating_sub(number as u64 / 8 % RECENT)),
         _ => match random_steps.step() {
-            Step::Recv(_) if plan.seed % 4 == 3 => Step::Send(number as u64),
+            Step::Recv(_) if seed % 4 == 3 => Step::Send(number as u64),
             step => with_recent_ticket(step, last),
         },
     }
@@ -96,8 +89,7 @@ fn with_recent_ticket(step: Step<u64>, last: u64) -> Step<u64> {
     }
 }
 
-// Makes all steps of a thread, and returns its seat. One that was refused a step is missing at the
-// end.
+// Makes all steps of a thread, and returns its seat, unless one was refused.
 fn make_steps<L: Ledger, R: Wait + Copy>(
     rt: R,
     audit: &Audit<u64, L, R>,
@@ -105,8 +97,9 @@ fn make_steps<L: Ledger, R: Wait + Copy>(
     (plan, mut random_steps): (Plan, RandomSteps),
     returned: &ReturnedSeats<L>,
 ) {
-    for number in 0..plan.steps {
-        match audit.step(&mut seat, step_of(plan, &mut random_steps, number)) {
+    let (_, steps, seed) = plan;
+    for number in 0..steps {
+        match audit.step(&mut seat, step_of(seed, &mut random_steps, number)) {
             Ok(Reply::Pending(ticket) | Reply::Parked(ticket)) => random_steps.last_ticket = ticket,
             Ok(_) => {}
             Err(_) => return,
@@ -115,7 +108,6 @@ fn make_steps<L: Ledger, R: Wait + Copy>(
     let _ = returned.lock(&rt).push(seat);
 }
 
-// Runs a thread for each seat, with a seed of its own. False: one can't be started.
 fn run_threads<L, R>(
     rt: R,
     audit: &Audit<u64, L, R>,
@@ -128,7 +120,7 @@ where
     R: Wait + Threads + Copy + Send + Sync,
 {
     thread::scope(thread::scope_env(), &rt, |scope| {
-        let mut state = plan.seed;
+        let (_, _, mut state) = plan;
         for seat in seats {
             state = state.wrapping_add(1);
             let random_steps = RandomSteps::from_seed(state);
@@ -141,8 +133,8 @@ where
     })
 }
 
-// The step of this number after the threads. All that waits is withdrawn; then a woken receiver
-// passes its wake on, and a blocked message comes back from a closed channel.
+// After the threads all that waits is withdrawn; then a woken receiver passes its wake on, and a
+// blocked message comes back from a closed channel.
 fn last_step(number: usize, last: u64) -> Step<u64> {
     if number < TICKETS {
         return Step::Withdraw(number as u64);
@@ -166,7 +158,6 @@ fn last_step(number: usize, last: u64) -> Step<u64> {
     }
 }
 
-// Makes the last steps with the first seat. False: one was refused.
 fn make_last_steps<L: Ledger, R: Wait + Copy>(
     audit: &Audit<u64, L, R>,
     seats: &mut Vec<Seat<u64, L>>,
@@ -195,8 +186,7 @@ fn is_right<L: Ledger>(rt: &impl Abort, alloc: Global, book: &Book<u64, L>, entr
     holds(rt, ("an audit", "it isn't empty"), is_empty || entries > 0);
 }
 
-// This many threads carry out the plan. The audit settles, each step is written, and the history is
-// a run. Adds its replies to the text.
+// The audit settles, each step is written, and the history is a run. Adds its replies to the text.
 fn audit_threads<L, R>(rt: R, blank: Blank, threads: usize, plan: Plan, text: &mut String)
 where
     L: Ledger + Send + Sync,
@@ -206,21 +196,22 @@ where
     requires one_each { blank.parts ≡ threads }
     requires some { 0 < threads }
 {
+    let (capacity, steps, seed) = plan;
     let alloc = rt.alloc();
-    let audit = Audit::<u64, L, R>::new(rt, alloc, blank, plan.capacity, threads);
+    let audit = Audit::<u64, L, R>::new(rt, alloc, blank, capacity, threads);
     let (audit, seats) = unwrap(&rt, audit);
     let returned = Mutex::new(Vec::new(alloc));
     let is_done = run_threads(rt, &audit, seats, plan, &returned);
     holds(&rt, ("an audit", "a thread can't be started"), is_done);
     let mut returned = returned.into_inner();
-    let last = if plan.seed == 0 { 0 } else { LAST_STEPS };
+    let last = if seed == 0 { 0 } else { LAST_STEPS };
     let is_asked = last == 0 || make_last_steps(&audit, &mut returned);
     holds(&rt, ("an audit", "a step is refused"), is_asked);
     let (closed, book) = audit.close(returned);
     let is_settled = matches!(closed, Closed::Settled);
     holds(&rt, ("an audit", "it doesn't settle"), is_settled);
-    let entries = threads.saturating_mul(plan.steps).saturating_add(last);
-    let is_opened = book.opening() == plan.capacity;
+    let entries = threads.saturating_mul(steps).saturating_add(last);
+    let is_opened = book.opening() == capacity;
     holds(&rt, ("an audit", "its capacity is another"), is_opened);
     is_right(&rt, alloc, &book, entries);
     for (_, reply) in book.history() {
@@ -240,26 +231,14 @@ fn count(text: &str, start: &str) -> u64 {
 
 #[test]
 fn an_audit_with_no_step_settles_with_its_capacity(rt: HostRuntime) {
-    let (capacity, steps, seed) = (Some(2), 0, 0);
-    let plan = Plan {
-        capacity,
-        steps,
-        seed,
-    };
     let mut text = String::new(rt.alloc());
-    audit_threads::<Brand, _>(rt, Blank::new(1), 1, plan, &mut text);
+    audit_threads::<Brand, _>(rt, Blank::new(1), 1, (Some(2), 0, 0), &mut text);
 }
 
 #[test]
 fn four_threads_make_eight_thousand_entries_and_settle(rt: HostRuntime) {
-    let (capacity, steps, seed) = (None, 2_000, 0);
-    let plan = Plan {
-        capacity,
-        steps,
-        seed,
-    };
     let mut text = String::new(rt.alloc());
-    audit_threads::<Brand, _>(rt, Blank::new(4), 4, plan, &mut text);
+    audit_threads::<Brand, _>(rt, Blank::new(4), 4, (None, 2_000, 0), &mut text);
 }
 
 #[test]
@@ -267,13 +246,7 @@ fn random_steps_of_two_threads_are_a_run(rt: HostRuntime) {
     let mut text = String::new(rt.alloc());
     for &capacity in CAPACITIES {
         for &seed in SEEDS {
-            let steps = STEPS;
-            let plan = Plan {
-                capacity,
-                steps,
-                seed,
-            };
-            audit_threads::<Brand, _>(rt, Blank::new(2), 2, plan, &mut text);
+            audit_threads::<Brand, _>(rt, Blank::new(2), 2, (capacity, STEPS, seed), &mut text);
         }
     }
     for &(start, least) in LEAST {

@@ -1,8 +1,6 @@
-//! Collects messages into batches: it drains the channel until a batch has five messages or its
-//! time is over, whichever comes first.
+//! Collects messages into batches: a batch ends when it has five messages, or its time is over.
 //!
-//! What is printed doesn't depend on how long anything takes. A batch is begun only once all that
-//! goes into it was sent, so its time may be over or not; and if nothing was sent, the time passes.
+//! What is printed depends on no time: a batch begins only once all that goes into it was sent.
 #![tactic(auto)]
 
 use flume::error::NoMemory;
@@ -10,22 +8,20 @@ use flume::{Receiver, RecvTimeoutError, Runtime, Sender, Waits};
 use std::time::{Duration, Instant};
 use std::{io, thread};
 
-// With how many messages a batch is full. It may get more, since a drain takes all that is queued.
+// A batch may get more, since a drain takes all that is queued.
 const SIZE: usize = 5;
 
-// How long a batch waits for its messages, in milliseconds.
+// In milliseconds.
 const PATIENCE: u64 = 20;
 
 /// Why a batch ended.
 #[derive(Drop)]
 enum End {
-    /// It has `SIZE` messages, or more.
     Full,
     Late,
     Closed,
 }
 
-/// Messages in the order in which they came, and why there are no more of them.
 #[derive(Drop)]
 struct Batch {
     messages: Vec<u64>,
@@ -35,7 +31,6 @@ struct Batch {
 fn main(rt: HostRuntime) -> io::Result<()> {
     // Of capacity 10: the first ten messages find room, so they are all sent before one is read.
     let (tx, messages) = flume::on(rt).bounded(10)?;
-    // Of capacity 1: the sender of a word doesn't wait until it is received.
     let (sent, was_sent) = flume::on(rt).bounded(1)?;
     let (acknowledge, acknowledged) = flume::on(rt).bounded(1)?;
     let sender = thread::spawn(&rt, move || send_all(tx, &sent, &acknowledged))?;
@@ -49,8 +44,7 @@ fn main(rt: HostRuntime) -> io::Result<()> {
     sender.join(&rt)
 }
 
-/// Sends ten messages, and after a word from the other side three more. It sends a word each time,
-/// the second time after it closed the channel by dropping its only sender.
+/// Sends ten messages, and after a word from the other side three more, with a word each time.
 fn send_all<R: Waits>(
     tx: Sender<u64, R>,
     sent: &Sender<(), R>,
@@ -71,8 +65,7 @@ fn send_some<R: Waits>(tx: &Sender<u64, R>, first: u64, last: u64) -> io::Result
     Ok(())
 }
 
-/// The next batch. One deadline serves for all its waits: a receive whose deadline is past doesn't
-/// wait, and still takes a message that is there.
+/// The next batch. A receive whose deadline is past still takes a message that is there.
 fn collect<R: Runtime>(rt: &R, from: &Receiver<u64, R>) -> io::Result<Batch> {
     let now = Instant::now(rt)?;
     let deadline = now
@@ -99,8 +92,7 @@ fn collect<R: Runtime>(rt: &R, from: &Receiver<u64, R>) -> io::Result<Batch> {
     Ok(Batch { messages, end })
 }
 
-/// Moves all that is queued into the list, taken from the channel in one step. If there is no
-/// memory for it, what was taken is lost with the program.
+/// Moves all that is queued into the list, in one step of the channel.
 fn drain<R: Waits>(from: &Receiver<u64, R>, messages: &mut Vec<u64>) -> io::Result<()> {
     for message in from.drain()? {
         messages.push(message)?;

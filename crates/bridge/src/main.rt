@@ -1,10 +1,8 @@
-//! A bridge between threads and tasks: a thread sends numbers, one task squares them, another one
-//! doubles the squares, and the main thread reads the answers.
+//! A thread sends numbers, one task squares them, another one doubles the squares, and the main
+//! thread reads the answers.
 //!
-//! The tasks receive by a stream and answer through a sink, the thread sends and the main thread
-//! receives by blocking calls. The first task is a type with a `poll`, which says why its stream
-//! ended. The second is a chain from the stream to the sink. Each channel has one sender and one
-//! receiver, so what is printed comes in the order in which it was sent.
+//! Threads make blocking calls; tasks receive by a stream and answer through a sink. The first task
+//! is a type with a `poll`, the second a chain from the stream to the sink.
 #![tactic(auto)]
 
 use flume::polled::{RecvStream, SendSink};
@@ -29,15 +27,13 @@ fn main(rt: HostRuntime) -> io::Result<()> {
         println!(rt; "{answer}")?;
     }
     answers.ended()?;
-    // If a task failed, its error says why; that of the tasks before it would only say that no one
-    // received.
+    // The error of the last that failed says why; those before it only say that no one received.
     second.join(&rt)?;
     first.join(&rt)?;
     feeder.join(&rt)
 }
 
-/// Sends the numbers from 1 to 10. Then the only sender is dropped, and the stream of the task
-/// ends.
+/// Sends the numbers from 1 to 10. Then the only sender is dropped, and the task's stream ends.
 fn feed<R: Waits>(numbers: &Sender<u64, R>) -> io::Result<()> {
     for number in 1..=10 {
         numbers.send(number)?;
@@ -45,8 +41,7 @@ fn feed<R: Waits>(numbers: &Sender<u64, R>) -> io::Result<()> {
     Ok(())
 }
 
-/// Runs the task on this thread until it is done. The stream and the sink own their ends, so both
-/// channels close as the task is dropped.
+/// Runs the task on this thread. It owns its ends, so both channels close as it is dropped.
 fn run<R>(rt: &R, numbers: Receiver<u64, R>, answers: Sender<u64, R>) -> io::Result<()>
 where
     R: Runtime + RandomSource,
@@ -57,8 +52,7 @@ where
     block_on(rt, Squares { numbers, answers })?
 }
 
-/// Runs a chain on this thread: each number is doubled, and sent on. It ends without an error also
-/// if the stream ended because memory ran out.
+/// Runs a chain on this thread. It ends without an error also if its stream had no memory to wait.
 fn double<R>(rt: &R, numbers: Receiver<u64, R>, answers: Sender<u64, R>) -> io::Result<()>
 where
     R: Runtime + RandomSource,
@@ -70,7 +64,6 @@ where
     Ok(())
 }
 
-/// Answers each number by its square, until no more can come.
 #[derive(Drop)]
 struct Squares<'a, R: Waits> {
     numbers: RecvStream<'a, u64, R>,
@@ -81,8 +74,7 @@ impl<R: Waits> Future for Squares<'_, R> {
     type Output = io::Result<()>;
 
     fn poll(&mut self, cx: &mut Context<'_>) -> Poll<io::Result<()>> {
-        // The sink keeps an answer until it is sent. So no number is taken before the answer to the
-        // last one is on its way, and none is kept as the stream ends.
+        // So no number is taken before the answer to the last one was sent.
         if let Err(error) = ready!(self.answers.poll_ready(cx)) {
             return Poll::Ready(Err(error.into()));
         }
@@ -92,7 +84,7 @@ impl<R: Waits> Future for Squares<'_, R> {
         if let Err(error) = self.answers.start_send(number.saturating_mul(number)) {
             return Poll::Ready(Err(error.into()));
         }
-        // There is more to do at once, and a poll has no loop: the executor is to poll again.
+        // There is more to do at once: the executor is to poll again.
         cx.yield_now()
     }
 }

@@ -1,7 +1,7 @@
 //! What the program is asked to time.
 use crate::fault::Fault;
 
-/// What one run does. The first word of a call names it.
+/// What one run does.
 #[derive(Clone, Copy)]
 pub enum Shape {
     Seq,
@@ -41,7 +41,6 @@ enum At {
     Any,
     NotZero,
     Unbounded,
-    // A number above 0: of messages, or of a crowd.
     AboveZero,
 }
 

@@ -13,7 +13,6 @@ use std::mem::forget;
 use std::sync::ledger::{Blank, Ledger};
 use std::time::Instant;
 
-/// Sends 0, 1, 2 and so on, and receives each before the next. The sum of what was received.
 fn pass_each<L: Ledger, R: Waits>(
     audit: &Audit<usize, L, R>,
     seat: &mut Seat<usize, L>,
@@ -30,7 +29,7 @@ fn pass_each<L: Ledger, R: Waits>(
 }
 
 impl<R: Waits> Bench<R> {
-    /// Each message sent, and received before the next, as steps of an audited channel.
+    /// `try_pair` as steps of an audited channel.
     pub fn audit_pair(&self) -> Result<usize, Fault> {
         self.audit_pair_under::<Brand>(Blank::new(1))
     }
@@ -64,7 +63,6 @@ impl<R: Waits> Bench<R> {
     }
 }
 
-/// Adds the steps that send 0, 1, 2 and so on, and receive each before the next. The sum of these.
 fn record_each(history: &mut Vec<(Step<usize>, Reply<usize>)>, messages: usize) -> usize {
     let mut sum = 0usize;
     for message in 0..messages {

@@ -17,7 +17,7 @@ pub struct Ends<R: Waits> {
     pub rx: Receiver<usize, R>,
 }
 
-/// A run: the capacity of its channels, and how many messages go through them.
+/// A run.
 #[derive(Drop)]
 pub struct Bench<R: Waits> {
     pub rt: R,
@@ -74,7 +74,6 @@ pub fn begin_anew<R: Clock>(rt: &R, start: &mut Instant) {
     }
 }
 
-/// The sum of all messages: each sender sends 0, 1, 2 and so on.
 fn sum_sent(shape: Shape, messages: usize) -> usize {
     let senders = match shape {
         Shape::Mpsc | Shape::Mpmc | Shape::MpmcMany | Shape::SelectRx => 4,
@@ -117,7 +116,6 @@ impl<R: Runtime + RandomSource> Bench<R> {
 }
 
 impl<R: Waits> Bench<R> {
-    // The same for one thread without an executor.
     fn in_one_thread(
         &self,
         shape: Shape,
@@ -138,7 +136,6 @@ impl<R: Waits> Bench<R> {
         }
     }
 
-    // The same for one channel.
     fn pass(
         &self,
         shape: Shape,

@@ -32,7 +32,7 @@ impl<R: Waits> Bench<R> {
         }
     }
 
-    // The polls of a shape with this many receives that wait already, which isn't timed.
+    // Parking the receives isn't timed.
     fn over_parked(
         &self,
         shape: Shape,
@@ -52,7 +52,6 @@ impl<R: Waits> Bench<R> {
         sum
     }
 
-    // This many receives that wait; fewer if memory runs out.
     fn park_each<'a>(
         &self,
         standing: usize,
@@ -79,7 +78,6 @@ fn park<'a, R: Waits>(
     }
 }
 
-/// Each message sent, and received before the next, by futures that are ready at once.
 fn pass_each<R: Waits>(ends: &Ends<R>, messages: usize, cx: &mut Context<'_>) -> usize {
     let mut sum = 0usize;
     for message in 0..messages {
@@ -91,7 +89,6 @@ fn pass_each<R: Waits>(ends: &Ends<R>, messages: usize, cx: &mut Context<'_>) ->
     sum
 }
 
-/// For each message a send that waits first, and then until another message is received.
 fn park_sends<R: Waits>(ends: &Ends<R>, messages: usize, cx: &mut Context<'_>) -> usize {
     let mut sum = 0usize;
     for message in 0..messages {
@@ -103,7 +100,7 @@ fn park_sends<R: Waits>(ends: &Ends<R>, messages: usize, cx: &mut Context<'_>) -
     sum
 }
 
-/// The receive that waits longest takes each message; if they are renewed, another begins to wait.
+/// The receive that waits longest takes each message. If renewed, another begins to wait.
 fn fill_each<'a, R: Waits>(
     ends: &'a Ends<R>,
     receives: &mut Vec<RecvFut<'a, usize, R>>,
@@ -124,7 +121,6 @@ fn fill_each<'a, R: Waits>(
     sum
 }
 
-/// Sends a message, and answers what the waiting receive takes, 0 for nothing.
 #[inline(always)]
 fn fill<'a, R: Waits>(
     ends: &'a Ends<R>,

@@ -1,5 +1,5 @@
-//! The shapes of a bare channel with a crowd of parked receivers, or of blocked sends, whose
-//! tickets begin at 1. Each operation leaves as many as there were.
+//! The shapes of a bare channel with a crowd of parked receivers or of blocked sends, whose tickets
+//! begin at 1. Each operation leaves as many.
 use crate::arguments::Shape;
 use crate::bench::{Bench, begin_anew};
 use flume::Waits;
@@ -32,7 +32,6 @@ fn gather(chan: &mut Chan<usize, ()>, shape: Shape, standing: usize) {
     }
 }
 
-/// The sum of the numbers of the operations that were answered correctly.
 fn operate(chan: &mut Chan<usize, ()>, shape: Shape, standing: usize, operations: usize) -> usize {
     let mut sum = 0usize;
     for number in 0..operations {
@@ -63,13 +62,11 @@ fn is_done(chan: &mut Chan<usize, ()>, shape: Shape, standing: usize, number: us
     }
 }
 
-/// The ticket in the middle of this many. If those there leave and others come, the front half
-/// stays.
+/// If those in the middle leave and others come, the front half stays.
 fn middle(standing: usize) -> u64 {
     (standing / 2).wrapping_add(1) as u64
 }
 
-/// A ticket of the crowd, picked by the number.
 fn random_ticket(standing: usize, number: usize) -> u64 {
     let spread = number.wrapping_mul(0x9E37_79B9_7F4A_7C15) >> 32;
     (spread.wrapping_mul(standing) >> 32).wrapping_add(1) as u64
@@ -79,7 +76,6 @@ fn waits_on(chan: &mut Chan<usize, ()>, ticket: u64) -> bool {
     matches!(chan.poll(ticket, None), Reply::Waiting)
 }
 
-/// The one with this ticket leaves. Whether it did, with the message that it came with.
 fn leaves(chan: &mut Chan<usize, ()>, shape: Shape, ticket: u64) -> bool {
     let reply = match shape {
         Shape::CrowdCancel => chan.withdraw_send(ticket),
@@ -88,7 +84,6 @@ fn leaves(chan: &mut Chan<usize, ()>, shape: Shape, ticket: u64) -> bool {
     matches!(reply, Reply::Returned { .. } | Reply::Gone { .. })
 }
 
-/// Sends a message, and polls the receiver that it fills. Whether that gets it.
 fn passes(chan: &mut Chan<usize, ()>, message: usize) -> bool {
     let Reply::Sent { filled: Some(_) } = chan.try_send(message) else {
         return false;

@@ -6,7 +6,6 @@ use std::fmt;
 /// What may go wrong.
 #[derive(Clone, Copy)]
 pub enum Fault {
-    /// No words at all: the caller asks for help.
     NoWords,
     WrongWords,
     /// The shape would wait for ever.
@@ -17,7 +16,6 @@ pub enum Fault {
     NoExecutor,
     NotSent,
     NotReceived,
-    /// What was received isn't what was sent.
     WrongMessages,
 }
 

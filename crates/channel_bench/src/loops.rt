@@ -11,9 +11,7 @@ use futures::{Future, ready};
 /// Which calls a loop makes.
 #[derive(Clone, Copy)]
 pub struct Calls {
-    // The first call sends.
     sends: bool,
-    // Sends and receives alternate.
     alternates: bool,
     // What is added to the last message to make the next.
     adds: usize,
@@ -79,7 +77,7 @@ impl<'a, R: Waits> Call<'a, R> {
     }
 }
 
-/// This many calls of a channel, one after the other. It gives the sum of what was received.
+/// Calls of a channel, one after the other. It gives the sum of what was received.
 #[derive(Drop)]
 pub struct Loop<'a, R: Waits> {
     ends: &'a Ends<R>,
@@ -105,7 +103,6 @@ impl<'a, R: Waits> Loop<'a, R> {
         }
     }
 
-    // Begins the call that follows one that sent or received this message.
     #[inline(always)]
     fn begin_next(&mut self, message: usize) {
         if !self.sends {

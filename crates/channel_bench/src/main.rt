@@ -87,8 +87,6 @@ fn read_arguments(rt: &HostRuntime) -> io::Result<Result<Arguments, Fault>> {
     Ok(Arguments::read(&words))
 }
 
-/// Prints how long one of this many messages takes, in nanoseconds, if all took this time; or what
-/// went wrong.
 fn print(rt: &HostRuntime, messages: usize, time: Result<Duration, Fault>) -> io::Result<ExitCode> {
     match time {
         Ok(time) => {

@@ -39,7 +39,6 @@ pub fn inout<R: Waits>(ends: &Ends<R>, messages: usize) -> usize {
     sum
 }
 
-/// The message that was sent and then received; 0 if none was.
 #[inline(always)]
 fn pass<R: Waits>(ends: &Ends<R>, message: usize) -> usize {
     match ends.tx.send(message) {
@@ -72,8 +71,7 @@ impl<R: Waits> Bench<R> {
     }
 }
 
-/// A loop as a user writes it, with `?` and an error of its own: this many messages sent and
-/// received in turn, and then this many sent and taken.
+/// A loop as a user writes it: messages sent and received in turn, and then as many sent and taken.
 pub fn plain<R: Waits>(ends: &Ends<R>, messages: usize) -> Result<usize, Fault> {
     let one_by_one = in_turn(ends, messages)?;
     Ok(one_by_one.wrapping_add(at_once(ends, messages)?))

@@ -25,7 +25,6 @@ impl<R: Runtime + RandomSource> Bench<R> {
     }
 
     /// Half of the messages sent to a second thread, which sends each back over a second channel.
-    /// Each thread runs a task of its own. Making the channels and the thread is in the time.
     pub fn async_ping(&self) -> Result<usize, Fault> {
         let (mut here, mut there) = (self.open()?, self.open()?);
         swap(&mut here.rx, &mut there.rx);

@@ -12,7 +12,6 @@ const FOUR: usize = 4;
 
 impl<R: Runtime + RandomSource> Bench<R> {
     /// Four threads send, each into a channel of its own, and this one receives all by selections.
-    /// Making the channels and the threads is in the time.
     pub fn select_rx(&self) -> Result<usize, Fault> {
         let each = self.messages / FOUR;
         let channels = self.open_four();
@@ -31,7 +30,6 @@ impl<R: Waits> Bench<R> {
         select_in_turn(&self.open_four(), self.messages)
     }
 
-    // Fewer if memory runs out.
     fn open_four(&self) -> Vec<Ends<R>> {
         let mut channels = Vec::new(self.alloc);
         for _ in 0..FOUR {
@@ -46,7 +44,6 @@ impl<R: Waits> Bench<R> {
     }
 }
 
-/// The sum of this many messages, each of which goes through one of the channels in turn.
 fn select_in_turn<R: Waits>(channels: &[Ends<R>], messages: usize) -> usize {
     let mut sum = 0usize;
     for message in 0..messages {
@@ -80,7 +77,6 @@ fn select<R: Waits>(channels: &[Ends<R>]) -> usize {
 /// Receivers that are added to a selector, an arm each. Of the last arm only that it is one is
 /// known: the whole type takes the prover far longer.
 trait MoreArms<'a> {
-    /// What the selection receives, or 0.
     fn select<L: Arms<usize, Global> + Drop, C: Arm<usize, Global> + Drop>(
         self,
         selector: Selector<'a, usize, (L, C)>,

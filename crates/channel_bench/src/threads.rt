@@ -1,4 +1,4 @@
-//! The shapes in several threads. Making the channel and the threads is in the time.
+//! The shapes in several threads. Making channels and threads is in the time.
 use crate::bench::{Bench, Ends};
 use crate::fault::Fault;
 use crate::loops::RECEIVES_FIRST;
@@ -22,7 +22,6 @@ pub enum Work<R: Waits> {
 }
 
 impl<R: Runtime + RandomSource> Work<R> {
-    // The sum of the messages that were received.
     fn pass_each(&self, rt: &R, messages: usize) -> usize {
         match self {
             Work::Sends(tx) => {
@@ -43,11 +42,9 @@ impl<R: Runtime + RandomSource> Work<R> {
 /// How many threads send and receive, and how.
 #[derive(Clone, Copy)]
 pub struct Crew {
-    /// This many threads send.
     pub senders: usize,
     /// As many others receive; else this thread does.
     pub several: bool,
-    /// They move many messages a call.
     pub many: bool,
 }
 
@@ -63,7 +60,7 @@ impl Crew {
 }
 
 impl<R: Runtime + RandomSource> Bench<R> {
-    /// What this thread receives from others; if several receive, what they do.
+    /// The sum of what is received.
     pub fn in_threads(&self, crew: Crew) -> Result<usize, Fault> {
         let each = self.messages / crew.senders.max(1);
         let ends = self.open()?;
@@ -97,7 +94,6 @@ impl<R: Runtime + RandomSource> Bench<R> {
         Ok(())
     }
 
-    // Starts a thread that sends or receives this many messages.
     fn start_clone(
         &self,
         threads: &mut Vec<JoinHandle<usize>>,
@@ -121,7 +117,7 @@ impl<R: Runtime + RandomSource> Bench<R> {
         self.start(threads, work, each)
     }
 
-    /// Starts a thread that does this with this many messages.
+    /// Starts a thread that does this work.
     pub fn start(
         &self,
         threads: &mut Vec<JoinHandle<usize>>,

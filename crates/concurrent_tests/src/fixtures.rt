@@ -1,5 +1,4 @@
-//! Explanations that are written as text. What can't be had fails the test here: a `?` in a test
-//! costs the prover a second, and an abort none.
+//! Explanations as text. What can't be had fails the test here: a `?` costs the prover a second.
 use flume_concurrent::event::{Event, Item};
 use flume_concurrent::explanation::{Explained, check_explanation};
 use flume_model::step::Reply;
@@ -10,7 +9,6 @@ use std::alloc::Global;
 use std::fmt::Debug;
 use std::process::Abort;
 
-// A word, and the number behind it.
 fn parts_of(text: &str) -> (&str, Option<u64>) {
     let (word, rest) = text.split_once(" ").unwrap_or((text, ""));
     (word, rest.parse().ok())
@@ -54,8 +52,7 @@ fn thread_of(name: &str) -> usize {
     name.as_bytes().first().copied().unwrap_or(0) as usize
 }
 
-// The item of a line: `a: CALL` as a call begins, `a -> ANSWER` as it returns, and `a | STEP ->
-// REPLY` for a step of it.
+// `a: CALL` as a call begins, `a -> ANSWER` as it returns, `a | STEP -> REPLY` for a step of it.
 fn item_of(rt: &impl Abort, alloc: Global, line: &str) -> Item<u64> {
     if let Some((name, call)) = line.split_once(": ") {
         let call = call_of(call.as_bytes()).expect(rt, "a call");
@@ -81,8 +78,7 @@ fn item_of(rt: &impl Abort, alloc: Global, line: &str) -> Item<u64> {
     }
 }
 
-// The check finds the item behind `! ` wrong, or the text, which is a title, an opening and items,
-// right.
+// A title, an opening and items, of which the check finds the one behind `! ` wrong.
 fn check_text(rt: &impl Abort, alloc: Global, text: &str) {
     let mut lines = text.split("\n");
     let title = lines.next().unwrap_or("");

@@ -1,5 +1,4 @@
-//! Explanations, each worked by hand from the tables of `specs/` and of `docs/MODEL.md`. Behind `!
-//! ` is the first item that is wrong.
+//! Explanations worked by hand from `specs/` and `docs/MODEL.md`; `! ` marks the first wrong item.
 use crate::fixtures::check_each;
 
 const ORDERS: &str = "
@@ -40,40 +39,10 @@ c -> got 2
 unbounded
 a: send 1
 ! b | try_send 2 -> sent
-a | try_send 1 -> sent
-a -> sent
-b: send 2
-b -> sent
 = nor can the other one once it has returned
 unbounded
 a: send 1
 ! a -> sent
-b: send 2
-b | try_send 2 -> sent
-b -> sent
-a | try_send 1 -> sent
-= a message can't be received before its send began
-unbounded
-b: try_recv
-! b | try_recv -> got 1
-b -> got 1
-a: send 1
-= two messages that were sent one after the other aren't received the other way round
-unbounded
-f: recv_async
-f | recv plain -> parked 1
-r: recv
-r | try_recv -> empty
-r | recv block -> parked 2
-s: send 1
-s | try_send 1 -> sent
-s -> sent
-s: send 2
-s | try_send 2 -> sent filled 2
-s -> sent
-r | poll 2 -> got 1
-! r -> got 2
-t: try_recv
 ";
 
 const MESSAGES: &str = "
@@ -87,7 +56,6 @@ b | try_recv -> got 1
 b -> got 1
 c: try_recv
 ! c | try_recv -> got 1
-c -> got 1
 = a receive finds a message that was sent before it began
 unbounded
 a: send 1
@@ -95,7 +63,6 @@ a | try_send 1 -> sent
 a -> sent
 b: try_recv
 ! b | try_recv -> empty
-b -> empty
 = it may come before a send that overlaps it
 unbounded
 b: try_recv
@@ -111,9 +78,6 @@ a | try_send 1 -> sent
 a -> sent
 b: recv_timeout
 ! b | try_recv -> empty
-b | recv block -> parked 1
-b | withdraw 1 -> gone
-b -> timeout
 = no more messages are queued than were sent
 unbounded
 a: send 1
@@ -121,7 +85,6 @@ a | try_send 1 -> sent
 a -> sent
 b: len
 ! b | len -> 2
-b -> 2
 = a list is drained in its order
 unbounded
 a: send 1
@@ -182,16 +145,12 @@ b -> got 1
 bounded 0
 a: send 1
 ! a | try_send 1 -> sent
-a -> sent
-b: recv
 = and it is still blocked
 bounded 0
 a: send 1
 a | try_send 1 -> full 1
 a | send 1 -> pending 1
 ! a | poll_send 1 -> accepted
-a -> sent
-b: recv
 = a send that is parked doesn't return
 bounded 0
 a: send 1
@@ -220,7 +179,6 @@ b -> got 1
 bounded 0
 a: try_send 1
 ! a | try_send 1 -> sent
-a -> sent
 = a try_send finds no receive that is open, and has made no step
 bounded 0
 b: recv
@@ -232,7 +190,6 @@ bounded 1
 b: recv
 a: try_send 1
 ! a | try_send 1 -> full 1
-a -> full
 ";
 
 const WAITS: &str = "
@@ -245,7 +202,6 @@ a | withdraw_send 1 -> returned 1
 a -> timeout
 b: try_recv
 ! b | try_recv -> got 1
-b -> got 1
 = nor does a send time out whose message was received
 bounded 0
 a: send_timeout 1
@@ -270,7 +226,6 @@ b: recv
 b | try_recv -> empty
 b | recv block -> parked 1
 ! b | withdraw 1 -> gone
-b -> timeout
 = a future that is parked leaves as it is dropped
 unbounded
 f: recv_async
@@ -314,7 +269,6 @@ a -> nomemory
 bounded 0
 a: try_send 1
 ! a | send 1 -> pending 1
-a -> full
 ";
 
 const THREADS: &str = "
@@ -359,7 +313,6 @@ c: try_send 1
 c | try_send 1 -> sent filled 1
 c -> sent
 ! b | poll 1 -> got 1
-b -> got 1
 = it returns what its step was answered
 unbounded
 a: try_recv

@@ -1,5 +1,4 @@
-//! Texts of errors that no contract says: debug texts, io errors, and an error whose message has no
-//! text.
+//! Debug texts of errors, io errors, and an error whose message has no text.
 use crate::fixtures::{is, unwrap};
 use flume_core::error::{
     CapacityError, NoMemory, RecvError, RecvTimeoutError, SelectError, SendError, SendTimeoutError,
@@ -55,7 +54,6 @@ fn a_send_error_is_one_of_std_whatever_its_message(rt: HostRuntime) {
     is(&rt, refused.into_inner().0, 5);
 }
 
-// The kinds and texts of these errors as io errors.
 fn io_errors_are<E: Into<io::Error> + Copy>(
     rt: &impl Abort,
     alloc: Global,

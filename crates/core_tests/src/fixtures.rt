@@ -1,5 +1,4 @@
-//! What several tests use. What can't be had fails the test here: a `?` in a test costs the prover
-//! a second, and an abort none.
+//! What can't be had aborts a test here: a `?` in a test costs the prover a second.
 use std::fmt::Debug;
 use std::process::Abort;
 
@@ -7,7 +6,6 @@ pub(crate) fn is<T: Debug + PartialEq + Drop>(rt: &impl Abort, answer: T, wanted
     assert_eq!(rt; answer, wanted);
 }
 
-/// The result of a call that fails for memory alone.
 pub(crate) fn unwrap<T, E: Debug + Drop>(rt: &impl Abort, answer: Result<T, E>) -> T {
     answer.expect(rt, "there is memory")
 }

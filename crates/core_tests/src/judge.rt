@@ -7,7 +7,6 @@ struct Offer {
     message: u64,
     ticket: Option<u64>,
     returned: bool,
-    // Whether its sender has learned what became of it.
     is_spent: bool,
     // Whether its sender was due; if it was before the channel closed, it is once more.
     was_due: bool,
@@ -119,7 +118,7 @@ impl Judge {
         }
     }
 
-    // Of a blocked send. Each reply but `Waiting` is its last, and only its own message comes back.
+    // Each reply but `Waiting` is the last of a send, and only its own message comes back.
     fn add_send_answer(&mut self, ticket: u64, reply: &Reply<u64>) {
         let is_over = self.is_over();
         let mut is_right = matches!(reply, Reply::NoTicket);
@@ -163,8 +162,7 @@ impl Judge {
         }
     }
 
-    /// Checks that all were added that the last step made due: each receiver that is filled, and in
-    /// a closed channel each call that waits.
+    /// Checks that each filled receiver was due, and in a closed channel each call that waits.
     pub fn check_all_due(&mut self) {
         let is_closed = self.senders == 0 || self.receivers == 0;
         let mut is_right = true;
@@ -204,8 +202,7 @@ impl Judge {
         Ok(())
     }
 
-    // Sets the state of a receiver's ticket, and answers the one before. One that waits again may
-    // be due again.
+    // Answers the state before. A receiver that waits again may be due again.
     fn set_state(&mut self, number: u64, state: TicketState) -> TicketState {
         let mut before = TicketState::Spent;
         for ticket in &mut self.tickets {
@@ -238,7 +235,7 @@ impl Judge {
         Ok(())
     }
 
-    // Of a parked receiver. One that was filled gets its message, and no other reply.
+    // A receiver that was filled gets its message, and no other reply.
     fn add_receiver_answer(&mut self, ticket: u64, reply: &Reply<u64>) -> Result<(), AllocError> {
         let (after, is_right) = match (self.set_state(ticket, TicketState::Spent), reply) {
             (TicketState::Parked, Reply::Got(message)) => {
@@ -285,7 +282,6 @@ impl Judge {
         Ok(())
     }
 
-    // Of the ends. Once all have been dropped no ticket is left.
     fn add_count(&mut self, step: &Step<u64>, reply: &Reply<u64>) {
         match (step, reply) {
             (Step::CloneSender, Reply::Done) => self.senders = self.senders.saturating_add(1),
@@ -309,7 +305,6 @@ impl Judge {
         self.senders == 0 && self.receivers == 0
     }
 
-    // The messages that did not come back, in the order of their offers.
     fn kept_messages(&self, alloc: Global) -> Result<Vec<u64>, AllocError> {
         let mut kept_messages = Vec::new(alloc);
         for offer in &self.offers {

@@ -64,7 +64,6 @@ struct CountedChannel<'a> {
     chan: Chan<Counted<'a>, Counted<'a>>,
     messages: &'a Counts,
     signals: &'a Counts,
-    // Polls hand in a new signal.
     replaces_signals: bool,
     // A ticket that is due is asked for after each step.
     asks_due: bool,
@@ -76,7 +75,6 @@ impl<'a> CountedChannel<'a> {
         self.replaces_signals.then(|| self.signals.make())
     }
 
-    // Makes the step with a message and a signal of its own.
     fn reply(&mut self, step: &Step<u64>) -> Reply<Counted<'a>> {
         let new_signal = self.new_signal();
         let chan = &mut self.chan;
@@ -99,7 +97,6 @@ impl<'a> CountedChannel<'a> {
         }
     }
 
-    // Makes the step, and drops its reply.
     fn make(&mut self, step: &Step<u64>) {
         let reply = self.reply(step);
         if matches!(reply, Reply::Pending(_) | Reply::Parked(_)) {

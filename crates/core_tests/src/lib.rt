@@ -1,5 +1,5 @@
-//! Tests of `flume_core` that a script can't say: random scripts, messages that aren't numbers, and
-//! texts of errors. What one thread does to a bare channel is in `core_scripts`.
+//! Tests of `flume_core` that a script of `core_scripts` can't say: random scripts, messages that
+//! aren't numbers, and texts of errors.
 #![tactic(auto)]
 
 #[cfg(test)]

@@ -1,5 +1,4 @@
-//! Random scripts, judged by a list that knows the replies alone. `history_tests` tries the judge
-//! on histories with one fault.
+//! Random scripts, judged by their replies alone. `history_tests` tries the judge on faults.
 use crate::fixtures::{is_titled, unwrap};
 use crate::judge::Judge;
 use crate::random_steps::RandomSteps;
@@ -19,7 +18,6 @@ const STEPS: u64 = 3;
 // More than a script offers.
 const TAKES: u64 = 40;
 
-// Runs a list of steps, and hands the replies to the judge.
 fn run_list<R: Abort>(
     rt: &R,
     alloc: Global,
@@ -34,7 +32,6 @@ fn run_list<R: Abort>(
     }
 }
 
-// Asks for the counts of ends, twice for each ticket, and for all messages that are left.
 fn run_end<R: Abort>(rt: &R, alloc: Global, chan: &mut Chan<u64, ()>, judge: &mut Judge) {
     let mut steps = unwrap(rt, vec![in alloc; Step::SenderCount, Step::ReceiverCount]);
     for ticket in 0..judge.last_ticket {

@@ -11,7 +11,7 @@ pub struct RandomSteps {
 }
 
 impl RandomSteps {
-    /// Steps from this seed, before any ticket was issued.
+    /// Steps from this seed.
     pub fn from_seed(state: u64) -> RandomSteps {
         RandomSteps {
             state,
@@ -39,7 +39,6 @@ impl RandomSteps {
         }
     }
 
-    // No two messages are the same.
     fn message(&mut self) -> u64 {
         self.message = self.message.wrapping_add(1);
         self.message

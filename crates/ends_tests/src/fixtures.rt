@@ -1,5 +1,4 @@
-//! What several tests use. What can't be had fails the test here: a `?` in a test costs the prover
-//! a second, and an abort none.
+//! What can't be had aborts a test here: a `?` in a test costs the prover a second.
 use flume::{Receiver, Sender, Waits};
 use std::alloc::{Allocator, Global};
 use std::fmt::Debug;
@@ -15,12 +14,10 @@ pub(crate) fn is<T: Debug + PartialEq + Drop>(rt: &impl Abort, answer: T, wanted
     assert_eq!(rt; answer, wanted);
 }
 
-/// The result of a call that fails for memory alone.
 pub(crate) fn unwrap<T, E: Debug + Drop>(rt: &impl Abort, answer: Result<T, E>) -> T {
     answer.expect(rt, "there is memory")
 }
 
-/// The ends of a new channel of this capacity: `None` is unbounded.
 pub(crate) fn channel<T: Drop, R: Waits, A: Allocator + Copy>(
     host: &impl Abort,
     (rt, alloc): (R, A),
@@ -50,7 +47,6 @@ impl<R: Waits + Abort> Work for Stuck<R> {
     }
 }
 
-/// Starts the watchdog of a test.
 pub(crate) fn start_watchdog<R: Waits + Threads + Abort + Send + Sync + 'static>(
     rt: R,
     alloc: Global,
@@ -61,7 +57,6 @@ pub(crate) fn start_watchdog<R: Waits + Threads + Abort + Send + Sync + 'static>
     }
 }
 
-/// An hour from now.
 pub(crate) fn far_deadline<R: Clock + Abort>(rt: &R) -> Instant {
     let now = Instant::now(rt).expect(rt, "the clock can be read");
     now.checked_add(one_hour()).expect(rt, "an hour has a sum")

@@ -1,13 +1,10 @@
 //! A bus of events: each subscriber has a bounded channel of its own, and the bus waits for none.
-//!
-//! One thread publishes and reads, so what is printed depends on no schedule.
 #![tactic(auto)]
 
 use flume::error::NoMemory;
 use flume::{Receiver, Runtime, Sender, TrySendError, Waits};
 use std::io;
 
-/// What a subscriber finds in its channel.
 #[derive(Drop)]
 enum Notice {
     Event(u64),
@@ -15,7 +12,6 @@ enum Notice {
     Missed(u64),
 }
 
-/// A subscriber as the bus sees it.
 #[derive(Drop)]
 struct Subscriber<R: Waits> {
     notices: Sender<Notice, R>,
@@ -25,8 +21,7 @@ struct Subscriber<R: Waits> {
 }
 
 impl<R: Waits> Subscriber<R> {
-    /// Sends it an event, after a count of those that it missed. An event that finds no room counts
-    /// as missed.
+    /// Sends it an event, after a count of those that it missed.
     fn notify(&mut self, event: u64) -> Result<(), NoMemory> {
         if self.missed > 0 && self.offer(Notice::Missed(self.missed))? {
             self.missed = 0;
@@ -37,8 +32,7 @@ impl<R: Waits> Subscriber<R> {
         Ok(())
     }
 
-    /// Whether the notice was taken in. `try_send` doesn't wait: a full channel delays no other
-    /// subscriber.
+    /// Whether the notice was taken in. A full channel delays no other subscriber.
     fn offer(&mut self, notice: Notice) -> Result<bool, NoMemory> {
         match self.notices.try_send(notice) {
             Ok(()) => Ok(true),
@@ -59,8 +53,7 @@ struct Bus<R: Waits> {
 }
 
 impl<R: Runtime> Bus<R> {
-    /// A new subscriber, which may be behind by as many notices as `capacity` says. It leaves by
-    /// dropping the receiver.
+    /// A new subscriber, which may be behind by this many notices, and leaves by dropping its end.
     fn subscribe(&mut self, capacity: usize) -> io::Result<Receiver<Notice, R>> {
         let (notices, received) = flume::on(self.rt).bounded(capacity)?;
         self.subscribers.push(Subscriber {
@@ -71,7 +64,6 @@ impl<R: Runtime> Bus<R> {
         Ok(received)
     }
 
-    /// Sends each subscriber the event, and removes those that have been dropped from the list.
     fn publish(&mut self, event: u64) -> io::Result<()> {
         for subscriber in &mut self.subscribers {
             subscriber.notify(event)?;
@@ -85,7 +77,7 @@ impl<R: Runtime> Bus<R> {
 fn main(rt: HostRuntime) -> io::Result<()> {
     let subscribers = Vec::new(rt.alloc());
     let mut bus = Bus { rt, subscribers };
-    // This one reads after each event, so room for one notice is enough.
+    // This one reads after each event.
     let quick = bus.subscribe(1)?;
     // This one reads seldom: it gets the first two events of a longer row, and a count of the rest.
     let slow = bus.subscribe(2)?;
@@ -96,19 +88,18 @@ fn main(rt: HostRuntime) -> io::Result<()> {
     read(&rt, "slow", &slow)?;
     bus.publish(6)?;
     read(&rt, "slow", &slow)?;
-    // With its only receiver the channel closes. The bus notices when it publishes.
+    // Its channel closes. The bus notices when it publishes.
     drop(quick);
     bus.publish(7)?;
     println!(rt; "subscribers: {}", bus.subscribers.len())?;
     let late = bus.subscribe(1)?;
     bus.publish(8)?;
-    // With the bus the last sender of each channel is dropped. What is queued is still read.
+    // What is queued is still read.
     drop(bus);
     read(&rt, "slow", &slow)?;
     read(&rt, "late", &late)
 }
 
-/// Prints all that is there, without waiting for more.
 fn read<R: Runtime + Print>(rt: &R, name: &str, notices: &Receiver<Notice, R>) -> io::Result<()> {
     for notice in notices.try_iter() {
         match notice {

@@ -2,7 +2,7 @@
 use flume_concurrent::call::{Answer, Call};
 use flume_concurrent::event::Event;
 use flume_explain::explain::{Checked, check_calls};
-use std::alloc::Global;
+use std::alloc::AllocGlobal;
 use std::process::Abort;
 
 fn begins(thread: usize, call: Call<u64>) -> Event<u64> {
@@ -15,12 +15,12 @@ fn returns(thread: usize, answer: Answer<u64>) -> Event<u64> {
 
 // What a search over this many configurations answers.
 fn is(
-    (rt, alloc): (&impl Abort, Global),
+    rt: &(impl Abort + AllocGlobal),
     (capacity, limit): (Option<usize>, usize),
     events: &[Event<u64>],
     wanted: Checked,
 ) {
-    assert_eq!(rt; check_calls(alloc, capacity, events, limit), wanted);
+    assert_eq!(rt; check_calls(rt.alloc(), capacity, events, limit), wanted);
 }
 
 #[test]
@@ -31,7 +31,7 @@ fn one_message_is_sent_and_received(rt: HostRuntime) {
         begins(1, Call::Recv),
         returns(1, Answer::Got(5)),
     ];
-    is((&rt, rt.alloc()), (None, 100), &events, Checked::Explained);
+    is(&rt, (None, 100), &events, Checked::Explained);
 }
 
 #[test]
@@ -42,7 +42,7 @@ fn another_message_is_received(rt: HostRuntime) {
         begins(1, Call::Recv),
         returns(1, Answer::Got(6)),
     ];
-    is((&rt, rt.alloc()), (None, 100), &events, Checked::Breaks(3));
+    is(&rt, (None, 100), &events, Checked::Breaks(3));
 }
 
 #[test]
@@ -53,23 +53,13 @@ fn a_send_and_a_receive_that_overlap_meet_at_capacity_0(rt: HostRuntime) {
         returns(0, Answer::Sent),
         returns(1, Answer::Got(5)),
     ];
-    is(
-        (&rt, rt.alloc()),
-        (Some(0), 100),
-        &events,
-        Checked::Explained,
-    );
+    is(&rt, (Some(0), 100), &events, Checked::Explained);
 }
 
 #[test]
 fn a_send_alone_is_not_sent_at_capacity_0(rt: HostRuntime) {
     let events = [begins(0, Call::Send(5)), returns(0, Answer::Sent)];
-    is(
-        (&rt, rt.alloc()),
-        (Some(0), 1000),
-        &events,
-        Checked::Breaks(1),
-    );
+    is(&rt, (Some(0), 1000), &events, Checked::Breaks(1));
 }
 
 #[test]
@@ -88,12 +78,7 @@ fn calls_time_out_and_futures_are_dropped_and_a_receive_is_refused_memory(rt: Ho
         begins(3, Call::RecvTimeout),
         returns(3, Answer::NoMemory),
     ];
-    is(
-        (&rt, rt.alloc()),
-        (Some(0), 10000),
-        &events,
-        Checked::Explained,
-    );
+    is(&rt, (Some(0), 10000), &events, Checked::Explained);
 }
 
 #[test]
@@ -118,12 +103,7 @@ fn a_channel_that_is_closed_has_no_message_left(rt: HostRuntime) {
         begins(0, Call::Len),
         returns(0, Answer::Number(1)),
     ];
-    is(
-        (&rt, rt.alloc()),
-        (Some(2), 10000),
-        &events,
-        Checked::Breaks(17),
-    );
+    is(&rt, (Some(2), 10000), &events, Checked::Breaks(17));
 }
 
 #[test]
@@ -142,16 +122,10 @@ fn sends_and_receives_that_overlap_take_effect_in_any_order(rt: HostRuntime) {
         returns(1, Answer::Sent),
         returns(2, Answer::Sent),
     ];
-    is(
-        (&rt, rt.alloc()),
-        (Some(1), 100000),
-        &events,
-        Checked::Explained,
-    );
+    is(&rt, (Some(1), 100000), &events, Checked::Explained);
 }
 
-// The first configuration is before the return of the send, and is free. Each step leads to one
-// more, and from there events are taken up to the next return of a call that hasn't its answer.
+// The first configuration, before the return of the send, is free. Each step leads to one more.
 #[test]
 fn two_calls_that_make_a_step_each_take_two_configurations(rt: HostRuntime) {
     let events = [
@@ -160,7 +134,7 @@ fn two_calls_that_make_a_step_each_take_two_configurations(rt: HostRuntime) {
         begins(1, Call::Recv),
         returns(1, Answer::Got(5)),
     ];
-    is((&rt, rt.alloc()), (None, 0), &events, Checked::GaveUp(1));
-    is((&rt, rt.alloc()), (None, 1), &events, Checked::GaveUp(3));
-    is((&rt, rt.alloc()), (None, 2), &events, Checked::Explained);
+    is(&rt, (None, 0), &events, Checked::GaveUp(1));
+    is(&rt, (None, 1), &events, Checked::GaveUp(3));
+    is(&rt, (None, 2), &events, Checked::Explained);
 }

@@ -1,6 +1,5 @@
 //! The ends are dropped at each place of a script, in both orders. A judge that knows the replies
-//! alone says whether messages come once and in order, what senders learn, and which tickets are
-//! due.
+//! alone looks at messages, at what senders learn, and at which tickets are due.
 use crate::fixtures::{holds, text_is, unwrap};
 use core_tests::judge::Judge;
 use flume_core::chan::Chan;
@@ -10,7 +9,7 @@ use flume_script::writing::write_reply;
 use std::alloc::Global;
 use std::process::Abort;
 
-// Scripts, and what each step answers if no end is dropped.
+// What each step answers if no end is dropped.
 const SCRIPTS: &str = "
 = receivers of three kinds wait, are woken and filled, and ask out of order
 bounded 1
@@ -96,8 +95,7 @@ const TAKES: usize = 8;
 // More tickets than a script issues.
 const MOST: usize = 16;
 
-// Before which step each end is dropped. The number of steps is behind the last step, and one more
-// is never.
+// Before which step each end is dropped. The number of steps: behind the last. One more: never.
 #[derive(Clone, Copy, Drop)]
 struct DropPlaces {
     sender: usize,
@@ -140,7 +138,6 @@ fn script_of(rt: &impl Abort, alloc: Global, text: &str) -> WorkedScript {
 }
 
 impl JudgedChannel {
-    // Makes a step, and asks which tickets it made due.
     fn make(&mut self, rt: &impl Abort, step: Step<u64>) {
         let reply = self.chan.step(step);
         unwrap(rt, self.judge.add(&step, &reply));
@@ -166,8 +163,7 @@ impl JudgedChannel {
         }
     }
 
-    // Polls, maybe, and withdraws each ticket from both sides, also 0 and the next one; then
-    // receives all that is left.
+    // Of the tickets also 0 and the next one, which no call has.
     fn make_last_steps(&mut self, rt: &impl Abort, polls: bool) {
         self.make(rt, Step::SenderCount);
         self.make(rt, Step::ReceiverCount);
@@ -190,8 +186,7 @@ impl JudgedChannel {
     }
 }
 
-// Whether the replies to a script with these drops are right, and the texts of those to its own
-// steps.
+// Whether the replies are right, and the texts of those to the script's own steps.
 fn judged(
     rt: &impl Abort,
     alloc: Global,
@@ -213,8 +208,6 @@ fn judged(
     (unwrap(rt, channel.judge.is_right(alloc)), text)
 }
 
-// The replies are right with the sender dropped here, and the receiver at each place, in either
-// order.
 fn are_right_with(
     rt: &impl Abort,
     alloc: Global,
@@ -238,7 +231,6 @@ fn are_right_with(
     }
 }
 
-// The replies to a script are those that it says, and are right wherever ends are dropped.
 fn script_is_right(rt: &impl Abort, alloc: Global, block: &str) {
     let (title, script) = block.split_once("\n").unwrap_or((block, ""));
     let script = script_of(rt, alloc, script);

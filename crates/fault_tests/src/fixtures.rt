@@ -1,14 +1,11 @@
-//! What several tests use. What can't be had fails the test here: a `?` in a test costs the prover
-//! a second, and an abort none.
+//! What can't be had aborts a test here: a `?` in a test costs the prover a second.
 use std::alloc::Global;
 use std::fmt::Debug;
 use std::process::Abort;
 use test_support::counting::Counting;
 
-/// The allocator of a channel.
 pub(crate) type Heap<'h> = &'h Counting<Global>;
 
-/// The result of a call that fails for memory alone.
 pub(crate) fn unwrap<T, E: Debug + Drop>(rt: &impl Abort, answer: Result<T, E>) -> T {
     answer.expect(rt, "there is memory")
 }
@@ -17,7 +14,6 @@ pub(crate) fn text_is(rt: &impl Abort, title: &str, answer: &str, wanted: &str) 
     assert_eq!(rt; answer, wanted, "{title}");
 }
 
-/// It holds; if not, the test fails with this title and fault.
 pub(crate) fn holds(rt: &impl Abort, (title, fault): (&str, &str), truth: bool) {
     assert!(rt; truth, "{title}: {fault}");
 }

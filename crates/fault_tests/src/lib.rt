@@ -1,6 +1,4 @@
-//! Tests of faults: each growth of a list and of a script refused in turn, ends that are dropped at
-//! each place of a script, and threads on a channel whose allocator refuses one growth in a
-//! hundred.
+//! Tests of faults: memory refused in turn or at random, and ends dropped anywhere in a script.
 #![tactic(auto)]
 
 #[cfg(test)]

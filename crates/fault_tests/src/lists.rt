@@ -1,5 +1,4 @@
-//! Each growth of a list of steps, and of a script, refused in turn. A list is refused as a whole,
-//! or the one step of it that needs memory is.
+//! Each growth of a list of steps, and of a script, refused in turn: as a whole, or at one step.
 use crate::fixtures::{Heap, holds, text_is, unwrap};
 use flume_core::chan::Chan;
 use flume_core::run::run;
@@ -48,8 +47,8 @@ fn read<'h>(
     }
 }
 
-// Makes a list of steps with this growth refused. If it is refused as a whole, all steps come back,
-// and are made again with memory. What they answer, and whether they came back.
+// What a list answers with this growth refused, and whether it was as a whole: then all steps come
+// back, and are made again with memory.
 fn list_with_refusal<'h>(
     rt: &impl Abort,
     heap: Heap<'h>,
@@ -73,7 +72,7 @@ fn list_with_refusal<'h>(
     (unwrap(rt, write_replies(heap, &replies)), is_whole)
 }
 
-// Runs a script with this growth refused. What it prints, and whether it was refused as a whole.
+// What a script prints with this growth refused, and whether it was as a whole.
 fn script_with_refusal<'h>(heap: Heap<'h>, script: &str, growth: u64) -> (Vec<u8, Heap<'h>>, bool) {
     heap.refuse_between(growth, growth);
     let answer = run_script(heap, script.as_bytes());
@@ -84,8 +83,7 @@ fn script_with_refusal<'h>(heap: Heap<'h>, script: &str, growth: u64) -> (Vec<u8
     }
 }
 
-// A list, or a script, answers as it should with this growth refused. Whether it was refused as a
-// whole, and whether a growth was refused at all.
+// Whether a list, or a script, was refused as a whole, and whether a growth was refused at all.
 fn check_growth(
     rt: &impl Abort,
     heap: Heap<'_>,

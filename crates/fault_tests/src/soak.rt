@@ -17,8 +17,7 @@ use test_support::ends::open;
 use test_support::watchdog::{Progress, Watchdog, start_watchdog_with};
 use test_support::work::Work;
 
-// How many messages each of four threads sends until they are taken, and how many more by futures
-// that it polls once.
+// How many messages each of four threads sends until they are taken, and as many by futures.
 const EACH: u64 = 1_000;
 
 // After how many messages a thread replaces its end, or sets the capacity.
@@ -50,7 +49,7 @@ fn short() -> Duration {
     Duration::from_millis(1)
 }
 
-// Sends by the call that the message picks. The message, if it comes back.
+// The message, if it comes back.
 fn send_once<R: Waits, A: Allocator + Copy>(tx: &Sender<u64, R, A>, message: u64) -> Option<u64> {
     match message % 3 {
         0 => tx.send(message).err().map(|error| error.into_inner()),
@@ -62,7 +61,7 @@ fn send_once<R: Waits, A: Allocator + Copy>(tx: &Sender<u64, R, A>, message: u64
     }
 }
 
-// Sends a message until it is taken. False: another message came back.
+// False: another message came back.
 fn send_until_taken<R: Waits, A: Allocator + Copy>(
     rt: &R,
     tx: &Sender<u64, R, A>,
@@ -117,8 +116,8 @@ fn renew<R: Waits, A: Allocator + Copy>(
     tx.downgrade().ok()?.upgrade().ok()?
 }
 
-// Sends all messages of one thread, and records what became of each. One that it can't send, or
-// that came back as another, stays unknown, and fails the test.
+// Records what became of each message. One that it can't send, or that came back as another, stays
+// unknown, and fails the test.
 fn send_all<R: TestRuntime, A: Allocator + Copy>(
     rt: R,
     mut tx: Sender<u64, R, A>,
@@ -217,7 +216,6 @@ fn drain<R: Waits, A: Allocator + Copy>(rt: &R, rx: &Receiver<u64, R, A>, tally:
     }
 }
 
-// Receives until all senders have been dropped, and counts each message.
 fn receive_all<R: TestRuntime, A: Allocator + Copy>(
     rt: R,
     rx: Receiver<u64, R, A>,
@@ -240,7 +238,7 @@ fn receive_all<R: TestRuntime, A: Allocator + Copy>(
     }
 }
 
-// Four threads send and four receive, until all is sent and received. Whether all were started.
+// Whether all threads were started.
 fn run_threads<R: TestRuntime, A: Allocator + Copy + Send + Sync>(
     rt: R,
     (tx, rx): (Sender<u64, R, A>, Receiver<u64, R, A>),
@@ -280,8 +278,7 @@ fn are_right(counts: &[u32], sent: &[Sent]) -> bool {
     true
 }
 
-// Runs the threads at this capacity, or at one that begins so and changes. How many growths were
-// refused.
+// How many growths were refused, at a capacity that stays, or changes.
 fn soak<R: TestRuntime>(
     rt: R,
     alloc: Global,

@@ -21,7 +21,7 @@ module _ {T A : Type 0} where
   parked_send : {old new : Deadline} {ticket : ℕ} {result : Result (Unit {0}) (SendTimeoutError T)}
       → send.ParkedSend (SendAgain A) WaitsUpTo old ticket new result → old ≡ Never → (back : T) → result ≢ Err (SendTimeout back)
   parked_send {ticket = ticket} (send.Asked a) never back late = subst (λ r. send_turn.IsLater ticket (SendDone r)) late a.answers
-  parked_send (send.Late a w b) never back late = w.reached refl (a.same ∙ never)
+  parked_send (send.Expired a w b) never back late = w.reached refl (a.same ∙ never)
   parked_send (send.Waited a w rest) never back late = parked_send rest (w.same ∙ a.same ∙ never) back late
 
   -- a whole send with no deadline is never too late
@@ -38,7 +38,7 @@ module _ {T A : Type 0} where
       → receive.ParkedReceive (ReceiveAgain A) WaitsUpTo old ticket new result → old ≡ Never → result ≢ Err RecvTimeout
   parked_receive {ticket = ticket} (receive.Asked a) never late = subst (λ r. receive_turn.IsLater ticket (RecvDone r)) late a.answers
   parked_receive (receive.Withdrawn a b e) never late = absurd a.not_refused
-  parked_receive (receive.Late a w b) never late = w.reached refl (a.same ∙ never)
+  parked_receive (receive.Expired a w b) never late = w.reached refl (a.same ∙ never)
   parked_receive (receive.Waited a w rest) never late = parked_receive rest (w.same ∙ a.same ∙ never) late
 
   -- a whole receive with no deadline is never too late

@@ -190,7 +190,7 @@ module _ {G T A : Type 0} (deadline : G → Deadline) (most : G → ℕ) (into :
       → GrowsBy (most old) (items old) (items new) (Done result)
   parked_grows (gate.Asked a) = a.4
   parked_grows (gate.Withdrawn a b e) = absurd a.3
-  parked_grows {old} {new} {ticket} {result} (gate.Late a w b) = from_equal _ (most old) _ (items old) (items new) (Done result) (w.1 ∙ a.1) (w.2 ∙ a.4) b.4
+  parked_grows {old} {new} {ticket} {result} (gate.Expired a w b) = from_equal _ (most old) _ (items old) (items new) (Done result) (w.1 ∙ a.1) (w.2 ∙ a.4) b.4
   parked_grows {old} {new} {ticket} {result} (gate.Waited a w rest) = from_equal _ (most old) _ (items old) (items new) (Done result) (w.1 ∙ a.1) (w.2 ∙ a.4) (parked_grows rest)
 
   -- what the whole call leaves of the list
@@ -206,7 +206,7 @@ module _ {G T A : Type 0} (deadline : G → Deadline) (most : G → ℕ) (into :
       → deadline old ≡ Never → result ≢ Err Timeout
   parked_in_time {ticket = ticket} (gate.Asked a) never late = subst (λ r. turn.IsLater ticket (Done r)) late a.2
   parked_in_time (gate.Withdrawn a b e) never late = absurd a.3
-  parked_in_time (gate.Late a w b) never late = w.3 refl (a.0 ∙ never)
+  parked_in_time (gate.Expired a w b) never late = w.3 refl (a.0 ∙ never)
   parked_in_time (gate.Waited a w rest) never late = parked_in_time rest (w.0 ∙ a.0 ∙ never) late
 
   -- the whole call isn't late where it has no deadline
@@ -223,7 +223,7 @@ module _ {G T A : Type 0} (deadline : G → Deadline) (most : G → ℕ) (into :
       × MakesMany {T = T} A (turn.step_of_parked_receive asked late) (turn.after_parked_receive asked late) (Done result)
   parked_made (gate.Asked a) = (_, false, a.5)
   parked_made (gate.Withdrawn a b e) = absurd a.3
-  parked_made (gate.Late a w b) = (_, true, b.5)
+  parked_made (gate.Expired a w b) = (_, true, b.5)
   parked_made (gate.Waited a w rest) = parked_made rest
 
   -- how the whole call ended

@@ -90,24 +90,24 @@ module _ {T : Type 0} where
   next_leaves all now left (Some (Err (Disconnected back))) last more = last_of_last all now (back ∷ left) last more
   next_leaves all now left (Some (Err (NoMemory back))) last more = last_of_last all now (back ∷ left) last more
 
-  -- what is behind a message of a list that begins with a kept one is the end of the others
-  behind_kept : (kept : T) (messages left : List T) (one : T) → IsEndOf (kept ∷ messages) (one ∷ left) → IsEndOf messages left
-  behind_kept kept messages left one ([], is) = ([], let same : messages ≡ left = cc in same)
-  behind_kept kept messages left one (first ∷ sent, is) =
+  -- what is behind a message of a list that begins with another is the end of the others
+  behind_message : (message : T) (messages left : List T) (one : T) → IsEndOf (message ∷ messages) (one ∷ left) → IsEndOf messages left
+  behind_message message messages left one ([], is) = ([], let same : messages ≡ left = cc in same)
+  behind_message message messages left one (first ∷ sent, is) =
       behind_first messages (one ∷ left) left one (sent, let same : messages ≡ sent ++ one ∷ left = cc in same) refl
 
-  -- of a list that begins with a kept message and that a poll was sending, the last of the others are left
-  kept_end : (kept : T) (messages left : List T) (answer : Answer T) → LeavesList (kept ∷ messages) left answer → IsEndOf messages left
-  kept_end kept messages left None leaves = behind_kept kept messages left leaves.0 leaves.1
-  kept_end kept messages left (Some (Ok sent)) (inl none) =
+  -- of a list that begins with a message of its own and that a poll was sending, the last of the others are left
+  message_end : (message : T) (messages left : List T) (answer : Answer T) → LeavesList (message ∷ messages) left answer → IsEndOf messages left
+  message_end message messages left None leaves = behind_message message messages left leaves.0 leaves.1
+  message_end message messages left (Some (Ok sent)) (inl none) =
       subst (λ left. IsEndOf messages left) (sym none) (messages, sym (append-nil messages))
-  kept_end kept messages left (Some (Ok sent)) (inr one) = behind_kept kept messages left one.0 one.1
-  kept_end kept messages left (Some (Err (Disconnected back))) last = behind_kept kept messages left back last
-  kept_end kept messages left (Some (Err (NoMemory back))) last = behind_kept kept messages left back last
+  message_end message messages left (Some (Ok sent)) (inr one) = behind_message message messages left one.0 one.1
+  message_end message messages left (Some (Err (Disconnected back))) last = behind_message message messages left back last
+  message_end message messages left (Some (Err (NoMemory back))) last = behind_message message messages left back last
 
   -- the same of a poll that first polls a send
   pub poll_end : (send : PolledSend T) (messages left : List T) (answer : Answer T) → PollLeaves send messages left answer → IsEndOf messages left
-  poll_end (Unsent kept) messages left answer leaves = kept_end kept messages left answer leaves
+  poll_end (Unsent message) messages left answer leaves = message_end message messages left answer leaves
   poll_end (Parked ticket) messages left answer (inl same) = ([], sym same.0)
   poll_end (Parked ticket) messages left answer (inr leaves) = list_end messages left answer leaves
   poll_end Finished messages left answer leaves = list_end messages left answer leaves
@@ -120,7 +120,7 @@ module _ {T : Type 0} where
   -- where the send ended well, the poll went on to the list
   pub sent_poll_leaves : (send : PolledSend T) (messages left : List T) (answer : Answer T) → LeavesList messages left answer
       → PollLeaves send messages left answer
-  sent_poll_leaves (Unsent kept) messages left answer leaves = next_leaves (kept ∷ messages) messages left answer (kept ∷ [], refl) leaves
+  sent_poll_leaves (Unsent message) messages left answer leaves = next_leaves (message ∷ messages) messages left answer (message ∷ [], refl) leaves
   sent_poll_leaves (Parked ticket) messages left answer leaves = inr leaves
   sent_poll_leaves Finished messages left answer leaves = leaves
 
@@ -129,11 +129,11 @@ module _ {T : Type 0} where
       → (send ≡ Finished → answer ≡ Some (Ok tt))
       → ((message : T) → send ≡ Unsent message → (error : SendError T) → answer ≡ Some (Err error) → back_of error ≡ message)
       → PollLeaves send messages messages answer
-  unsent_poll_leaves (Unsent kept) messages None unfit over came = (kept, ([], refl))
-  unsent_poll_leaves (Unsent kept) messages (Some (Ok sent)) unfit over came = absurd (unfit refl)
-  unsent_poll_leaves (Unsent kept) messages (Some (Err (Disconnected back))) unfit over came =
-      ([], ap (λ m. m ∷ messages) (sym (came kept refl (Disconnected back) refl)))
-  unsent_poll_leaves (Unsent kept) messages (Some (Err (NoMemory back))) unfit over came =
-      ([], ap (λ m. m ∷ messages) (sym (came kept refl (NoMemory back) refl)))
+  unsent_poll_leaves (Unsent message) messages None unfit over came = (message, ([], refl))
+  unsent_poll_leaves (Unsent message) messages (Some (Ok sent)) unfit over came = absurd (unfit refl)
+  unsent_poll_leaves (Unsent message) messages (Some (Err (Disconnected back))) unfit over came =
+      ([], ap (λ m. m ∷ messages) (sym (came message refl (Disconnected back) refl)))
+  unsent_poll_leaves (Unsent message) messages (Some (Err (NoMemory back))) unfit over came =
+      ([], ap (λ m. m ∷ messages) (sym (came message refl (NoMemory back) refl)))
   unsent_poll_leaves (Parked ticket) messages answer unfit over came = inl (refl, unfit)
   unsent_poll_leaves Finished messages answer unfit over came = absurd (unfit (over refl))

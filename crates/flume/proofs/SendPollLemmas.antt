@@ -108,8 +108,8 @@ module _ {T S A : Type 0} {send after : PolledSend T} {signal : Option S} {old n
   keeps_ticket (Asks late t next is held signalled turned again outcome settles) ticket parked none =
       let now = pending_parks next after answer settles none in
       let same : t ≡ ticket = cc in
-      let kept = same_ticket T t late now.0 (subst (λ next. IsAgain t late next) now.1 again) in
-      now.2 ∙ ap Parked (kept ∙ same)
+      let stays = same_ticket T t late now.0 (subst (λ next. IsAgain t late next) now.1 again) in
+      now.2 ∙ ap Parked (stays ∙ same)
 
   -- a send that has ended answers that it is sent
   pub finished_is_ok : SendPoll A send signal old new after answer → send ≡ Finished → answer ≡ Some (Ok tt)

@@ -2,8 +2,7 @@
 use Rattle.std.specs.Prelude.{◌≡◌, ◌<◌, ◌≤◌, ◌-◌, ◌+◌, ℕ, min, List, Some, None}
 use Rattle.std.specs.Prelude.{slice_get, slice_set}
 
--- one of these holds of the arm with this number: the first if it is among so many before a list,
--- and else the second, of its place in the list
+-- the first holds of an arm among so many before a list, the second of the place of one in it
 pub record ByPlace (count : ℕ) (before listed : ℕ → Type 0) (arm : ℕ) : Type 0 where
   pub is_before : arm < count → before arm
   pub is_listed : count ≤ arm → listed (arm - count)

@@ -40,12 +40,12 @@ module _ {T : Type 0} where
   receive_result (receiving.Completed None) = Some (Err receive.Disconnected)
   receive_result _ = None
 
-  -- a turn of a send arm is never too late
+  -- a turn of a send arm doesn't time out
   abbrev pub IsArmSend : SendNext T → Type 0
   IsArmSend (SendNext.Done (Err (SendTimeoutError.Timeout back))) = ⊥
   IsArmSend _ = Unit {0}
 
-  -- a turn of a receive arm is never too late, and doesn't run out of memory once it is parked
+  -- a turn of a receive arm doesn't time out, nor run out of memory once it is parked
   abbrev pub IsArmReceive : RecvNext T → Type 0
   IsArmReceive (RecvNext.Done (Err RecvTimeoutError.Timeout)) = ⊥
   IsArmReceive (RecvNext.Refused ticket) = ⊥

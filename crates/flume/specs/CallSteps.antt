@@ -50,7 +50,7 @@ module _ {T : Type 0} where
   try_send_as_turn (Err (try_send.NoMemory back)) =
       send_next.Done (Err (send_timeout.NoMemory back))
 
-  -- a turn of a send that neither parks it nor is too late
+  -- a turn of a send that neither parks it nor times out
   abbrev pub NeverParks : SendNext T → Type 0
   NeverParks (send_next.Park ticket) = ⊥
   NeverParks (send_next.Done (Err (send_timeout.Timeout back))) = ⊥

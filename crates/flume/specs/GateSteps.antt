@@ -20,10 +20,10 @@ abbrev pub MakesWaiter : Deadline → Deadline → Bool → Type 0
 MakesWaiter old new made = new ≡ old
 
 -- a wait, by whether the deadline is reached
-pub record WaitsUpTo (old new : Deadline) (late : Bool) : Type 0 where
+pub record WaitsUpTo (old new : Deadline) (expired : Bool) : Type 0 where
   pub same : new ≡ old
-  pub reached : late ≡ true → old ≢ Never
-  pub ahead : late ≡ false → CanBeAhead old
+  pub reached : expired ≡ true → old ≢ Never
+  pub ahead : expired ≡ false → CanBeAhead old
 
 module _ {T : Type 0} (A : Type 0) where
   -- a send's first turn makes a `try_send`
@@ -41,12 +41,12 @@ module _ {T : Type 0} (A : Type 0) where
     pub made : HasMade {A = A} (Send message) send.after_send next
 
   -- a turn of the parked send makes a `poll_send`, and at its deadline a `withdraw_send`
-  pub record SendAgain (old : Deadline) (ticket : ℕ) (late : Bool) (new : Deadline)
+  pub record SendAgain (old : Deadline) (ticket : ℕ) (last : Bool) (new : Deadline)
       (next : SendNext T) : Type 0 where
     pub same : new ≡ old
-    pub answers : send.IsAgain ticket late next
-    pub made : HasMade {A = A} (send.step_of_parked_send ticket late)
-        (send.after_parked_send ticket late) next
+    pub answers : send.IsAgain ticket last next
+    pub made : HasMade {A = A} (send.step_of_parked_send ticket last)
+        (send.after_parked_send ticket last) next
 
   -- a send of this message up to this deadline, with this result
   abbrev pub Sends : Deadline → T → Result (Unit {0}) (SendTimeoutError T) → Type 0
@@ -67,13 +67,13 @@ module _ {T : Type 0} (A : Type 0) where
     pub made : HasMade {A = A} (Recv Block) receive.after_recv next
 
   -- a turn of the parked receive makes a `poll`, and at its deadline a `withdraw`
-  pub record ReceiveAgain (old : Deadline) (ticket : ℕ) (late : Bool) (new : Deadline)
+  pub record ReceiveAgain (old : Deadline) (ticket : ℕ) (last : Bool) (new : Deadline)
       (next : RecvNext T) : Type 0 where
     pub same : new ≡ old
-    pub answers : receive.IsAgain ticket late next
+    pub answers : receive.IsAgain ticket last next
     pub not_refused : receive.IsntRefused next
-    pub made : HasMade {A = A} (receive.step_of_parked_receive ticket late)
-        (receive.after_parked_receive ticket late) next
+    pub made : HasMade {A = A} (receive.step_of_parked_receive ticket last)
+        (receive.after_parked_receive ticket last) next
 
   -- a receive up to this deadline, with this result
   abbrev pub Receives : Deadline → Result T RecvTimeoutError → Type 0

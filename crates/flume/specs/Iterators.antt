@@ -17,43 +17,41 @@ use Rattle.flume.specs.GateSteps.{Receives}
 
 -- what a contract sees of an iterator over received messages
 pub record IterValue : Type 0 where
-  -- the number of its channel
   pub channel : ℕ
   pub fault : Bool
   -- how often `next` may still be called; no run uses that up
-  pub left : ℕ
+  pub calls : ℕ
 
 -- the iterator over a channel's messages as it begins
 abbrev pub new_iter : ℕ → IterValue
-new_iter channel = record { channel = channel; fault = false; left = 2 ^ 64 - 1 }
+new_iter channel = record { channel = channel; fault = false; calls = 2 ^ 64 - 1 }
 
 -- one `next`
 pub record IsNext {T : Type 0} (old : IterValue) (item : Option T) (new : IterValue) : Type 0 where
   pub channel : new.channel ≡ old.channel
-  pub left : old.left ≡ new.left + 1
+  pub calls : old.calls ≡ new.calls + 1
   pub fault : new.fault ≡ true → item ≡ None
 
 -- what a contract sees of an iterator that ends at a deadline
 pub record DeadlineIterValue : Type 0 where
   pub channel : ℕ
   pub deadline : Deadline
-  -- why the last `next` gave nothing
   pub end : Option RecvTimeoutError
-  pub left : ℕ
+  pub calls : ℕ
 
 -- the iterator over a channel's messages up to a deadline as it begins
 abbrev pub new_deadline_iter : ℕ → Deadline → DeadlineIterValue
 new_deadline_iter channel deadline =
-    record { channel = channel; deadline = deadline; end = None; left = 2 ^ 64 - 1 }
+    record { channel = channel; deadline = deadline; end = None; calls = 2 ^ 64 - 1 }
 
 -- one `next` of it
 pub record IsNextInTime {T : Type 0} (A : Type 0) (old : DeadlineIterValue) (item : Option T)
     (new : DeadlineIterValue) : Type 0 where
   pub channel : new.channel ≡ old.channel
   pub deadline : new.deadline ≡ old.deadline
-  pub left : old.left ≡ new.left + 1
+  pub calls : old.calls ≡ new.calls + 1
   pub end : IsSome new.end ↔ IsNone item
-  pub late : new.end ≡ Some timeout.Timeout → old.deadline ≢ Never
+  pub has_deadline : new.end ≡ Some timeout.Timeout → old.deadline ≢ Never
   pub ahead : new.end ≢ Some timeout.Timeout → CanBeAhead old.deadline
   pub made : new.end ≢ Some timeout.Timeout → (answer : Result T RecvTimeoutError)
       × Receives A old.deadline answer × (item ≡ result_ok answer) × (new.end ≡ result_err answer)

@@ -8,8 +8,7 @@ use Rattle.futures.specs.Task.{Wakes}
 use Rattle.flume_state.specs.State.{State}
 use Rattle.flume_core.specs.Represents.{IsReachable}
 
--- the slot has a waker of the task that polls, or the executor couldn't make one, and polls the
--- task again without it
+-- the slot has a waker of the task that polls, or the executor couldn't make one
 abbrev pub LeavesWaker : Context → Context → Option Waker → Type 0
 LeavesWaker old new slot =
     (new.lacks_waker ≡ true) ⊎ IsSomeAnd slot (λ waker. Wakes waker old)

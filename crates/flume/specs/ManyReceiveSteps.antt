@@ -51,14 +51,10 @@ module _ {T : Type 0} (A : Type 0) where
   -- how a receive of many that may wait ended, by the turn that ended it
   pub data ReceivesMany (before after : List T) (result : Result ℕ RecvTimeoutError)
       : Type 0 where
-    -- the first turn
     AtFirst : ReceivesBatch before after (Done result) → ReceivesMany before after result
-    -- none was there, and no memory for the waiter
     NoWaiter : FindsNone T A → result ≡ Err NoMemory → ReceivesMany before after result
-    -- none was there, and then the turn that may park it
     AtPark : FindsNone T A → MakesMany (Recv Block) after_recv (Done result)
         → ReceivesMany before after result
-    -- none was there, it parked, and then a later turn
-    AtAgain : FindsNone T A → (ticket : ℕ) → (late : Bool)
-        → MakesMany (step_of_parked_receive ticket late) (after_parked_receive ticket late)
+    AtAgain : FindsNone T A → (ticket : ℕ) → (last : Bool)
+        → MakesMany (step_of_parked_receive ticket last) (after_parked_receive ticket last)
         (Done result) → ReceivesMany before after result

@@ -20,8 +20,7 @@ module _ {T : Type 0} where
   abbrev pub IsEndOf : List T → List T → Type 0
   IsEndOf messages left = (sent : List T) × (messages ≡ sent ++ left)
 
-  -- What a poll leaves of these messages, by its answer: those behind the one that is blocked or
-  -- comes back.
+  -- what a poll leaves of these messages: those behind the one that is blocked or comes back
   abbrev pub LeavesList : List T → List T → Option (Result (Unit {0}) (SendError T)) → Type 0
   LeavesList messages left None = (blocked : T) × IsEndOf messages (blocked ∷ left)
   LeavesList messages left (Some (Ok sent)) =

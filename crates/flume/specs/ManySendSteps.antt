@@ -46,7 +46,6 @@ module _ {T : Type 0} (A : Type 0) where
       : List T → Result (List T) (SendTimeoutError (List T)) → Type 0 where
     TakenIn : {first : T} {behind : List T} → Sends A deadline first (Ok tt)
         → SendsFirst deadline (first ∷ behind) (Ok behind)
-    -- the others are behind what the error of its send has
     ComesBack : {first : T} {behind : List T} {error : SendTimeoutError T}
         → Sends A deadline first (Err error) → SendsFirst deadline (first ∷ behind)
         (Err (error_list (λ back. back ∷ behind) error))
@@ -58,18 +57,14 @@ module _ {T : Type 0} (A : Type 0) where
     NoneLeft : SendsManyUpTo deadline [] (Ok tt)
     AllTakenIn : {messages : List T} → SendsBatch messages (Ok tt)
         → SendsManyUpTo deadline messages (Ok tt)
-    -- the batch finds the channel closed
     IsClosed : {messages left : List T}
         → SendsBatch messages (Err (try_send.Disconnected left))
         → SendsManyUpTo deadline messages (Err (send_timeout.Disconnected left))
-    -- the batch finds no memory
     IsRefused : {messages left : List T} → SendsBatch messages (Err (try_send.NoMemory left))
         → SendsManyUpTo deadline messages (Err (send_timeout.NoMemory left))
-    -- the send of the next message ends with an error
     FirstComesBack : {messages left : List T} {error : SendTimeoutError (List T)}
         → SendsBatch messages (Err (try_send.Full left)) → SendsFirst deadline left (Err error)
         → SendsManyUpTo deadline messages (Err error)
-    -- the send of the next message ends with `Ok`, and then the others are sent
     GoesOn : {messages left behind : List T}
         {result : Result (Unit {0}) (SendTimeoutError (List T))}
         → SendsBatch messages (Err (try_send.Full left)) → SendsFirst deadline left (Ok behind)

@@ -46,12 +46,12 @@ pub(crate) fn try_send_many_answer<T: Drop, A: Allocator>(
 
 #[inline(always)]
 pub(crate) fn send_answer<T: Drop>(
-    ended: Result<(), SendTimeoutError<T>>,
+    outcome: Result<(), SendTimeoutError<T>>,
 ) -> Result<(), SendError<T>>
-    requires in_time { (back : T) → ended ≢ Err (SendTimeoutError.Timeout back) }
-    ensures ended { ended ≡ answer.send_as_timed result }
+    requires in_time { (back : T) → outcome ≢ Err (SendTimeoutError.Timeout back) }
+    ensures outcome { outcome ≡ answer.send_as_timed result }
 {
-    match ended {
+    match outcome {
         Ok(()) => Ok(()),
         Err(SendTimeoutError::NoMemory(message)) => Err(SendError::NoMemory(message)),
         Err(SendTimeoutError::Disconnected(message)) => Err(SendError::Disconnected(message)),
@@ -75,11 +75,11 @@ pub(crate) fn try_receive_answer<T: Drop>(turn: RecvNext<T>) -> Result<T, TryRec
 }
 
 #[inline(always)]
-pub(crate) fn receive_answer<T: Drop>(ended: Result<T, RecvTimeoutError>) -> Result<T, RecvError>
-    requires in_time { ended ≢ Err RecvTimeoutError.Timeout }
-    ensures ended { ended ≡ answer.receive_as_timed result }
+pub(crate) fn receive_answer<T: Drop>(outcome: Result<T, RecvTimeoutError>) -> Result<T, RecvError>
+    requires in_time { outcome ≢ Err RecvTimeoutError.Timeout }
+    ensures outcome { outcome ≡ answer.receive_as_timed result }
 {
-    match ended {
+    match outcome {
         Ok(message) => Ok(message),
         Err(RecvTimeoutError::NoMemory) => Err(RecvError::NoMemory),
         Err(RecvTimeoutError::Disconnected) => Err(RecvError::Disconnected),

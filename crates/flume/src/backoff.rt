@@ -1,17 +1,13 @@
-//! What a call does before it sleeps: a sleep and the wake from it cost far more than what it waits
-//! for.
+//! What a call does before it sleeps, since a sleep costs far more than what it waits for.
 use crate::signal::YIELDS;
 use std::hint::spin_loop;
 
-// The greatest capacity that counts as small.
-const SPIN_CAPACITY: u64 = 4;
+const SMALL_CAPACITY: u64 = 4;
 
 pub(crate) const UNBOUNDED: u64 = u64::MAX;
 
-// How often a call checks for its wake at most.
 const CHECKS: u32 = 220;
 
-// Pauses at a small capacity, and at a greater one.
 const FEW_PAUSES: u32 = 70;
 
 const PAUSES: u32 = 300;
@@ -25,13 +21,12 @@ pub(crate) struct Backoff {
 }
 
 impl Backoff {
-    // At capacity 0 a call parks and checks. At a small capacity it first lets one message come or
-    // go. At a greater one it lets them gather, and then only lets other threads run. On an
-    // unbounded channel neither helped.
+    // At a small capacity a call first lets one message come or go, at a greater one it lets them
+    // gather. On an unbounded channel neither helped.
     pub(crate) fn of(capacity_hint: u64) -> Backoff {
         let (pauses, checks) = if capacity_hint == 0 {
             (0, CHECKS)
-        } else if capacity_hint <= SPIN_CAPACITY {
+        } else if capacity_hint <= SMALL_CAPACITY {
             (FEW_PAUSES, CHECKS)
         } else if capacity_hint < UNBOUNDED {
             (PAUSES, YIELDS)
@@ -45,7 +40,6 @@ impl Backoff {
 // How often a call tries for the lock before it sleeps for it.
 pub(crate) const TRIES: u32 = 8;
 
-// Before the first try; before each next one twice as many.
 pub(crate) const FIRST_PAUSES: u32 = 32;
 
 pub(crate) fn pause(pauses: u32) {

@@ -12,13 +12,10 @@ use std::fmt;
 use std::marker::Model;
 
 /// How a channel is to be opened: `on` makes one, `number` and `allocator` change it, `unbounded`
-/// and `bounded` open the channel.
+/// and `bounded` open the channel. A copy opens another channel with the same number.
 ///
 /// Whatever its capacity, a channel holds at most 4,294,967,295 messages, as many parked receivers
-/// and as many live sends. Past that a call answers `NoMemory`, though no allocation failed.
-///
-/// A copy opens another channel with the same number. A builder with a reference, as to an
-/// allocator of one's own, can't be copied.
+/// and as many live sends. Past that a call answers `NoMemory`.
 #[derive(Copy)]
 pub struct Builder<R: Waits, A: Allocator + Copy> {
     rt: R,
@@ -44,16 +41,13 @@ impl<R: Waits, A: Allocator + Copy> Model for Builder<R, A> {
     } };
 }
 
-/// A builder with the number 0 and the runtime's allocator, which is the global one of the host's
-/// runtime. Doesn't allocate.
-///
+/// A builder with the number 0 and the runtime's allocator. Doesn't allocate. A runtime value that
+/// has none is given with one: `flume::on((rt, alloc))`.
 /// ```
 /// let (tx, rx) = flume::on(rt).unbounded()?;
 /// tx.send(42)?;
 /// assert_eq!(rt; rx.recv(), Ok(42));
 /// ```
-///
-/// A runtime value that has no allocator is given with one: `flume::on((rt, alloc))`.
 pub fn on<R: Waits + Alloc>(rt: R) -> Builder<R, R::A>
 where
     R::A: Copy,
@@ -68,9 +62,7 @@ where
 }
 
 impl<R: Waits, A: Allocator + Copy> Builder<R, A> {
-    /// Opens the channel with this number. `same_channel` compares the numbers of channels and
-    /// nothing else.
-    ///
+    /// Gives the channel this number. `same_channel` compares the numbers and nothing else.
     /// ```
     /// let (first, _) = flume::on(rt).number(1).unbounded::<u64>()?;
     /// let (second, _) = flume::on(rt).number(2).unbounded()?;
@@ -84,8 +76,7 @@ impl<R: Waits, A: Allocator + Copy> Builder<R, A> {
         Builder { id: number, ..self }
     }
 
-    /// Opens the channel with this allocator, for all its memory.
-    ///
+    /// Gives the channel this allocator, for all its memory.
     /// ```
     /// let (tx, rx) = flume::on(rt).allocator(rt.alloc()).bounded(16)?;
     /// tx.send(42)?;
@@ -112,9 +103,7 @@ impl<R: Waits, A: Allocator + Copy> Builder<R, A> {
     }
 
     /// Opens a channel that holds at most `capacity` messages, apart from those sent while a
-    /// receiver waits. At capacity 0, a rendezvous, a send waits until a receiver takes its
-    /// message. `NoMemory` as of `unbounded`.
-    ///
+    /// receiver waits. At 0 a send waits until one takes its message. Errors as of `unbounded`.
     /// ```
     /// let (tx, rx) = flume::on(rt).bounded(1)?;
     /// assert_eq!(rt; tx.try_send(1), Ok(()));
@@ -142,7 +131,6 @@ impl<R: Waits, A: Allocator + Copy> Clone for Builder<R, A> {
     }
 }
 
-/// `Builder { number: 0, .. }`, with its number.
 impl<R: Waits, A: Allocator + Copy> fmt::Debug for Builder<R, A> {
     fn fmt<W: fmt::Write>(&self, f: &mut fmt::Formatter<W>) -> fmt::Result {
         f.debug_struct("Builder")

@@ -20,9 +20,8 @@ use std::fmt;
 use std::marker::Model;
 use std::time::{Duration, Instant};
 
-/// The messages of a receiver up to a deadline: `Receiver::iter_deadline` and
-/// `Receiver::iter_timeout`. After a `None`, `ended` says why.
-///
+/// The messages of a receiver up to a deadline. After a `None`, `ended` says why. A clock that
+/// can't be read counts as past it.
 /// ```
 /// let (tx, rx) = flume::on(rt).unbounded()?;
 /// tx.send(42)?;
@@ -51,15 +50,12 @@ impl<'a, T, R: Waits, A: Allocator + Copy> Model for DeadlineIter<'a, T, R, A> {
       channel = it.receiver.now;
       deadline = it.deadline;
       end = it.end;
-      left = it.progress.left;
+      calls = it.progress.calls;
     } };
 }
 
 impl<T: Drop, R: Waits, A: Allocator + Copy> Receiver<T, R, A> {
-    /// The messages, one after the other, up to the deadline; then messages that are left stay in
-    /// the channel. It waits for each, and ends too if `recv` fails. A clock that can't be read
-    /// counts as past each deadline. Doesn't allocate.
-    ///
+    /// As `iter`, up to the deadline; messages that are left then stay in the channel.
     /// ```
     /// let (tx, rx) = flume::on(rt).unbounded()?;
     /// tx.send(42)?;
@@ -73,12 +69,12 @@ impl<T: Drop, R: Waits, A: Allocator + Copy> Receiver<T, R, A> {
         DeadlineIter::new(self, Deadline::At(deadline))
     }
 
-    /// As `iter_deadline`, with a timeout. If the deadline overflows, as `iter`.
+    /// As `iter_deadline`, so long from now; as `iter`, if no time of the clock is that late.
     pub fn iter_timeout(&self, timeout: Duration) -> DeadlineIter<'_, T, R, A>
         ensures new { (deadline : Deadline) × IsAfter timeout deadline
             × (result ≡ new_deadline_iter self.now deadline) }
     {
-        DeadlineIter::new(self, Deadline::after(self.runtime(), timeout))
+        DeadlineIter::new(self, Deadline::after(&self.shared().rt, timeout))
     }
 }
 
@@ -94,10 +90,7 @@ impl<'a, T: Drop, R: Waits, A: Allocator + Copy> DeadlineIter<'a, T, R, A> {
         }
     }
 
-    /// Why the last `next` gave nothing. `Timeout`: the deadline is reached. `NoMemory`: there was
-    /// no memory to wait. `Ok`: all senders had been dropped, or it gave a message, or there was no
-    /// `next` yet. The receiver can be used on after each.
-    ///
+    /// Why the last `next` gave nothing. `Ok`: it gave a message, or all senders had been dropped.
     /// ```
     /// let (_tx, rx) = flume::on(rt).unbounded::<u64>()?;
     /// let mut messages = rx.iter_timeout(Duration::ZERO);
@@ -105,7 +98,7 @@ impl<'a, T: Drop, R: Waits, A: Allocator + Copy> DeadlineIter<'a, T, R, A> {
     /// assert_eq!(rt; messages.ended(), Err(RecvTimeoutError::Timeout));
     /// ```
     pub fn ended(&self) -> Result<(), RecvTimeoutError>
-        ensures late { (result ≡ Err RecvTimeoutError.Timeout)
+        ensures timeout { (result ≡ Err RecvTimeoutError.Timeout)
             ↔ (self.now.end ≡ Some RecvTimeoutError.Timeout) }
         ensures no_memory { (result ≡ Err RecvTimeoutError.NoMemory)
             ↔ (self.now.end ≡ Some RecvTimeoutError.NoMemory) }
@@ -129,11 +122,11 @@ fn receive<T: Drop, R: Waits, A: Allocator + Copy>(
     receiver: &Receiver<T, R, A>,
     deadline: Deadline,
 ) -> Result<T, RecvTimeoutError>
-    ensures late { result ≡ Err RecvTimeoutError.Timeout → deadline ≢ Never }
+    ensures has_deadline { result ≡ Err RecvTimeoutError.Timeout → deadline ≢ Never }
     ensures ahead { result ≢ Err RecvTimeoutError.Timeout → CanBeAhead deadline }
     ensures made { result ≢ Err RecvTimeoutError.Timeout → Receives A deadline result }
 {
-    let rt = receiver.runtime();
+    let rt = &receiver.shared().rt;
     if deadline.is_reached(rt) {
         return Err(RecvTimeoutError::Timeout);
     }
@@ -146,10 +139,10 @@ impl<'a, T: Drop, R: Waits, A: Allocator + Copy> Iterator for DeadlineIter<'a, T
 
     ghost next_gives = { IsNextInTime A };
 
-    ghost remaining = { λ it. at_most it.left };
+    ghost remaining = { λ it. at_most it.calls };
 
     fn next(&mut self) -> Option<T> {
-        self.progress.count(self.receiver.runtime());
+        self.progress.count(&self.receiver.shared().rt);
         match receive(self.receiver, self.deadline) {
             Ok(message) => {
                 self.end = None;

@@ -1,5 +1,4 @@
-//! The gate of the ends: each turn is made under the channel's lock, and the call waits on a parker
-//! of its own.
+//! The gate of the ends: turns are made under the channel's lock, and a call waits on its parker.
 ghost use Rattle.std.specs.Prelude.{◌≡◌, ⊤};
 ghost use Rattle.flume.specs.GateSteps.{MakesWaiter, WaitsUpTo, SendFirst, SendPark, SendAgain};
 ghost use Rattle.flume.specs.GateSteps.{ReceiveFirst, ReceivePark, ReceiveAgain};
@@ -45,13 +44,13 @@ impl<T: Drop, R: Waits, A: Allocator + Copy> SendGate<T> for Gate<'_, T, R, A> {
 
     type Signal = Signal<A>;
 
-    ghost firsts = { SendFirst A };
+    ghost first_turn = { SendFirst A };
 
     ghost makes = { MakesWaiter };
 
-    ghost parks = { SendPark A };
+    ghost parking_turn = { SendPark A };
 
-    ghost agains = { SendAgain A };
+    ghost parked_turn = { SendAgain A };
 
     ghost waits = { WaitsUpTo };
 
@@ -71,9 +70,9 @@ impl<T: Drop, R: Waits, A: Allocator + Copy> SendGate<T> for Gate<'_, T, R, A> {
     }
 
     #[inline(always)]
-    fn again(&mut self, call: SendCall, late: bool) -> SendNext<T> {
+    fn again(&mut self, call: SendCall, last: bool) -> SendNext<T> {
         let signal = None;
-        self.shared.call_cold(AgainSend { call, late, signal })
+        self.shared.call_cold(AgainSend { call, last, signal })
     }
 
     #[inline(always)]
@@ -87,13 +86,13 @@ impl<T: Drop, R: Waits, A: Allocator + Copy> RecvGate<T> for Gate<'_, T, R, A> {
 
     type Signal = Signal<A>;
 
-    ghost firsts = { ReceiveFirst A };
+    ghost first_turn = { ReceiveFirst A };
 
     ghost makes = { MakesWaiter };
 
-    ghost parks = { ReceivePark A };
+    ghost parking_turn = { ReceivePark A };
 
-    ghost agains = { ReceiveAgain A };
+    ghost parked_turn = { ReceiveAgain A };
 
     ghost waits = { WaitsUpTo };
 
@@ -116,9 +115,9 @@ impl<T: Drop, R: Waits, A: Allocator + Copy> RecvGate<T> for Gate<'_, T, R, A> {
     }
 
     #[inline(always)]
-    fn again(&mut self, call: RecvCall, late: bool) -> RecvNext<T> {
+    fn again(&mut self, call: RecvCall, last: bool) -> RecvNext<T> {
         let signal = None;
-        self.shared.call_cold(AgainReceive { call, late, signal })
+        self.shared.call_cold(AgainReceive { call, last, signal })
     }
 
     #[inline(always)]

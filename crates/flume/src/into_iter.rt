@@ -13,7 +13,6 @@ use std::fmt;
 use std::marker::Model;
 
 /// As `Iter`, with the receiver in it.
-///
 /// ```
 /// let (tx, rx) = flume::on(rt).unbounded()?;
 /// tx.send(42)?;
@@ -38,7 +37,7 @@ impl<T, R: Waits, A: Allocator + Copy> Model for IntoIter<T, R, A> {
     ghost view = { λ it. record {
       channel = it.receiver;
       fault = it.progress.fault;
-      left = it.progress.left;
+      calls = it.progress.calls;
     } };
 }
 
@@ -67,7 +66,7 @@ impl<T: Drop, R: Waits, A: Allocator + Copy> Iterator for IntoIter<T, R, A> {
 
     ghost next_gives = { IsNext };
 
-    ghost remaining = { λ it. at_most it.left };
+    ghost remaining = { λ it. at_most it.calls };
 
     fn next(&mut self) -> Option<T> {
         self.progress.receive(&self.receiver)

@@ -11,10 +11,8 @@ use std::alloc::{Allocator, Global};
 use std::fmt;
 use std::marker::Model;
 
-/// The messages of a receiver, one after the other; it waits for each. `None`: none is there and
-/// all senders have been dropped, or, if `fault` says so, there was no memory to wait: then there
-/// may be more.
-///
+/// The messages of a receiver, one after the other; it waits for each. `None`: there are no more,
+/// and all senders have been dropped; or, if `fault` is true, there was no memory to wait.
 /// ```
 /// let (tx, rx) = flume::on(rt).unbounded()?;
 /// tx.send(42)?;
@@ -39,7 +37,7 @@ impl<'a, T, R: Waits, A: Allocator + Copy> Model for Iter<'a, T, R, A> {
     ghost view = { λ it. record {
       channel = it.receiver.now;
       fault = it.progress.fault;
-      left = it.progress.left;
+      calls = it.progress.calls;
     } };
 }
 
@@ -53,9 +51,8 @@ impl<'a, T: Drop, R: Waits, A: Allocator + Copy> Iter<'a, T, R, A> {
         }
     }
 
-    /// Whether the last `next` ended because memory ran out. The receiver can be used on after it.
-    /// An adapter hides this: lend it the iterator, as in `messages.by_ref().take(10)`.
-    ///
+    /// Whether the last `next` ended because memory ran out: then more may come. An adapter hides
+    /// this: lend it the iterator, as in `messages.by_ref().take(10)`.
     /// ```
     /// let (tx, rx) = flume::on(rt).unbounded::<u64>()?;
     /// drop(tx);
@@ -70,7 +67,6 @@ impl<'a, T: Drop, R: Waits, A: Allocator + Copy> Iter<'a, T, R, A> {
     }
 
     /// `NoMemory` if `fault` is true, for a `?` after a loop.
-    ///
     /// ```
     /// let (tx, rx) = flume::on(rt).unbounded::<u64>()?;
     /// tx.send(42)?;
@@ -97,7 +93,7 @@ impl<'a, T: Drop, R: Waits, A: Allocator + Copy> Iterator for Iter<'a, T, R, A> 
 
     ghost next_gives = { IsNext };
 
-    ghost remaining = { λ it. at_most it.left };
+    ghost remaining = { λ it. at_most it.calls };
 
     fn next(&mut self) -> Option<T> {
         self.progress.receive(self.receiver)
@@ -122,8 +118,7 @@ impl<'a, T: Drop, R: Waits, A: Allocator + Copy> IntoIterator for &'a Receiver<T
     }
 }
 
-/// The messages of a receiver, one after the other; it waits for none. After a `None` there may be
-/// more.
+/// The messages of a receiver, as `try_recv` gives them. After a `None` more may come.
 #[derive(Drop)]
 pub struct TryIter<'a, T, R: Waits, A: Allocator + Copy = Global> {
     receiver: &'a Receiver<T, R, A>,
@@ -139,7 +134,7 @@ impl<'a, T, R: Waits, A: Allocator + Copy> Model for TryIter<'a, T, R, A> {
     ghost view = { λ it. record {
       channel = it.receiver.now;
       fault = false;
-      left = it.progress.left;
+      calls = it.progress.calls;
     } };
 }
 
@@ -166,10 +161,10 @@ impl<'a, T: Drop, R: Waits, A: Allocator + Copy> Iterator for TryIter<'a, T, R, 
 
     ghost next_gives = { IsNext };
 
-    ghost remaining = { λ it. at_most it.left };
+    ghost remaining = { λ it. at_most it.calls };
 
     fn next(&mut self) -> Option<T> {
-        self.progress.count(self.receiver.runtime());
+        self.progress.count(&self.receiver.shared().rt);
         self.receiver.try_recv().ok()
     }
 }

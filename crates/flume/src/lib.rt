@@ -1,51 +1,30 @@
 //! Channels between threads and tasks: flume 0.12.0, written again with contracts that are proved.
-//! Receivers take the messages out in the order in which senders put them in. Each message goes to
-//! one receiver. Both ends can be cloned, and moved to other threads.
-//!
+//! Messages come out in the order in which senders put them in, each at one receiver. Both ends can
+//! be cloned, and moved to other threads.
 //! ```
 //! let (tx, rx) = flume::on(rt).unbounded()?;
 //! tx.send(42)?;
 //! assert_eq!(rt; rx.recv(), Ok(42));
 //! ```
-//!
-//! `rt` is the runtime value that `main` is handed; the ends keep a copy of it. If an allocation
-//! fails, a call answers `NoMemory`: nothing aborts.
-//!
-//! # Unbounded channels
-//!
-//! `flume::on(rt).unbounded()` opens a channel in which `send` never waits. [`Builder`] has the
-//! greatest number of messages.
-//!
-//! # Bounded channels
-//!
-//! `flume::on(rt).bounded(n)` opens a channel with room for `n` queued messages. If it is full and
-//! no receiver waits, `send` waits for room, and `try_send` hands its message back.
-//!
+//! `rt` is the runtime value that `main` is handed. If an allocation fails, a call answers
+//! `NoMemory`: nothing aborts. A channel opened by `unbounded` is never full. One opened by
+//! `bounded(n)` has room for `n` queued messages: if it is full and no receiver waits, `send` waits
+//! for room, and `try_send` hands its message back.
 //! ```
 //! let (tx, _rx) = flume::on(rt).bounded(1)?;
 //! assert_eq!(rt; tx.try_send(1), Ok(()));
 //! assert_eq!(rt; tx.try_send(2), Err(TrySendError::Full(2)));
 //! ```
-//!
-//! # Rendezvous channels
-//!
-//! `flume::on(rt).bounded(0)` opens a channel in which `send` waits until a receiver takes its
+//! On a channel opened by `bounded(0)`, a rendezvous, `send` waits until a receiver takes its
 //! message.
-//!
 //! ```
 //! let (tx, rx) = flume::on(rt).bounded(0)?;
 //! let sender = thread::spawn(&rt, move || tx.send(2))?;
 //! assert_eq!(rt; rx.recv(), Ok(2));
 //! assert_eq!(rt; sender.join(&rt), Ok(()));
 //! ```
-//!
-//! # Disconnection
-//!
 //! After the last sender is dropped, receivers still get the queued messages, and then
-//! `Disconnected`; a loop over a receiver ends there. `ended` of its iterator says if it ended
-//! early because an allocation failed. After the last receiver is dropped, a send answers
-//! `Disconnected` with its message.
-//!
+//! `Disconnected`. After the last receiver is dropped, a send answers `Disconnected`.
 //! ```
 //! let (tx, rx) = flume::on(rt).unbounded()?;
 //! tx.send(7)?;
@@ -53,21 +32,13 @@
 //! assert_eq!(rt; rx.recv(), Ok(7));
 //! assert_eq!(rt; rx.recv(), Err(RecvError::Disconnected));
 //! ```
-//!
-//! # Futures, sinks and streams
-//!
-//! The executors of the crate `futures` run these. Tasks and threads may share a channel.
-//!
+//! Tasks and threads may share a channel. The executors of the crate `futures` run these:
 //! ```
 //! let (tx, rx) = flume::on(rt).unbounded()?;
 //! assert_eq!(rt; block_on(&rt, tx.send_async(42))?, Ok(()));
 //! assert_eq!(rt; block_on(&rt, rx.recv_async())?, Ok(42));
 //! ```
-//!
-//! # Selection
-//!
 //! A `Selector` waits for the first of several sends and receives, on channels of any types.
-//!
 //! ```
 //! let (jobs, work) = flume::on(rt).unbounded::<u64>()?;
 //! let (stop, stopped) = flume::on(rt).bounded::<()>(1)?;
@@ -75,10 +46,7 @@
 //! let job = Selector::new().recv(&stopped, |_| None).recv(&work, Result::ok);
 //! assert_eq!(rt; job.wait()?, Some(7));
 //! ```
-//!
-//! The repository's docs/USING.md has more recipes, its README.md says what is proved. The crate
-//! also gives the names of `flume_core`, and some of `flume_calls`, `flume_audit`, `flume_history`
-//! and `flume_script`.
+//! The repository's docs/USING.md has more recipes, its README.md says what is proved.
 #![tactic(auto)]
 
 mod answers;

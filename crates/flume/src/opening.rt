@@ -8,9 +8,7 @@ use flume_core::error::NoMemory;
 use std::alloc::Allocator;
 use std::sync::Arc;
 
-/// Opens an unbounded channel, as `flume::on(rt).unbounded()` does. `id` is its number, as of
-/// `Builder::number`. `NoMemory`: it couldn't be allocated.
-///
+/// As `flume::on(rt).allocator(alloc).number(id).unbounded()`.
 /// ```
 /// let (tx, rx) = unbounded(rt, rt.alloc(), 1)?;
 /// tx.send(42)?;
@@ -27,8 +25,7 @@ pub fn unbounded<T: Drop, R: Waits, A: Allocator + Copy>(
     ends(rt, alloc, id, None)
 }
 
-/// Opens a channel as `flume::on(rt).bounded(capacity)` does. The rest as of `unbounded`.
-///
+/// As `flume::on(rt).allocator(alloc).number(id).bounded(capacity)`.
 /// ```
 /// let (tx, rx) = bounded(rt, rt.alloc(), 2, 1)?;
 /// assert_eq!(rt; tx.try_send(1), Ok(()));

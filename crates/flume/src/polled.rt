@@ -1,8 +1,5 @@
-//! Futures, sinks and streams over a channel.
-//!
-//! A poll that has to wait leaves its task's waker in the very step that found nothing. A call that
-//! is dropped while it waits leaves the channel: a send takes its message back, and a receive
-//! passes on a wake that it had. One that is forgotten does neither.
+//! Futures, sinks and streams. One that is dropped while it waits leaves the channel: a send takes
+//! its message back, a receive passes on a wake that it had. One that is forgotten does neither.
 
 mod many;
 mod owned_or_ref;

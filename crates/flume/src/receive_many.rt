@@ -26,13 +26,8 @@ use std::time::{Duration, Instant};
 
 impl<T: Drop, R: Waits, A: Allocator + Copy> Receiver<T, R, A> {
     /// Takes the messages that are there, at most `most`, puts them behind what `into` holds, in
-    /// order, and answers how many. Doesn't wait. Blocked sends are let in as each message leaves,
-    /// so it may take more than the capacity. If `most` is 0, it answers 0.
-    ///
-    /// `Empty`: none is there. `Disconnected`: none is, and all senders have been dropped.
-    /// `NoMemory`: `into` couldn't grow to hold them. Each leaves `into` as it was, and takes
-    /// nothing.
-    ///
+    /// order, and answers how many. Blocked sends are let in as each message leaves, so it may take
+    /// more than the capacity. `NoMemory`: `into` couldn't grow. An error leaves `into` as it was.
     /// ```
     /// let (tx, rx) = flume::on(rt).unbounded()?;
     /// tx.send(1)?;
@@ -64,12 +59,8 @@ impl<T: Drop, R: Waits, A: Allocator + Copy> Receiver<T, R, A> {
         try_receive_answer(next)
     }
 
-    /// As `try_recv_many`, but waits for the first message. If `most` is 0, it doesn't wait.
-    ///
-    /// `Disconnected`: none is there, and all senders have been dropped. `NoMemory`: `into`
-    /// couldn't grow, or there was no memory to wait. Both leave `into` as it was, and take
-    /// nothing. If `into` can't grow after a wait, it takes as many as there is room for.
-    ///
+    /// As `try_recv_many`, but waits for the first message unless `most` is 0. `NoMemory` also if
+    /// there was none to wait. If `into` can't grow after a wait, it takes what there is room for.
     /// ```
     /// let (tx, rx) = flume::on(rt).unbounded()?;
     /// tx.send(1)?;
@@ -92,9 +83,7 @@ impl<T: Drop, R: Waits, A: Allocator + Copy> Receiver<T, R, A> {
         receive_answer(self.recv_many_until(into, most, Deadline::Never))
     }
 
-    /// As `recv_many`, waiting up to the deadline, as of `recv_deadline`. `Timeout`: it is reached,
-    /// and no message came; `into` is as it was.
-    ///
+    /// As `recv_many`, waiting up to the deadline, as `recv_deadline` does.
     /// ```
     /// let (_tx, rx) = flume::on(rt).unbounded::<u64>()?;
     /// let mut messages = Vec::new(rt.alloc());
@@ -118,7 +107,7 @@ impl<T: Drop, R: Waits, A: Allocator + Copy> Receiver<T, R, A> {
         self.recv_many_until(into, most, Deadline::At(deadline))
     }
 
-    /// As `recv_many_deadline`, with a timeout. If the deadline overflows, as `recv_many`.
+    /// As `recv_many_deadline`, so long from now, as of `recv_timeout`.
     pub fn recv_many_timeout(
         &self,
         into: &mut Vec<T, A>,
@@ -132,7 +121,7 @@ impl<T: Drop, R: Waits, A: Allocator + Copy> Receiver<T, R, A> {
         ensures no_memory { result ≡ Err RecvTimeoutError.NoMemory
             → (vec_capacity into.old < vec_len into.old + most) ⊎ FindsNone T A }
     {
-        let deadline = Deadline::after(self.runtime(), timeout);
+        let deadline = Deadline::after(&self.shared().rt, timeout);
         self.recv_many_until(into, most, deadline)
     }
 
@@ -160,7 +149,7 @@ impl<T: Drop, R: Waits, A: Allocator + Copy> Receiver<T, R, A> {
             into: list,
             most,
         };
-        let answer = recv_over(self.runtime(), &mut gate);
+        let answer = recv_over(&self.shared().rt, &mut gate);
         let ManyGate { into: list, .. } = gate;
         *into = list;
         answer
@@ -177,7 +166,6 @@ struct ManyGate<'a, T, R: Waits, A: Allocator + Copy> {
 }
 
 impl<T: Drop, R: Waits, A: Allocator + Copy> ManyGate<'_, T, R, A> {
-    // The list keeps the room that `make_waiter` made until a message comes.
     #[cold]
     #[inline(never)]
     fn receive_and_more<C>(&mut self, turn: C) -> RecvNext<usize>
@@ -209,7 +197,7 @@ impl<T: Drop, R: Waits, A: Allocator + Copy> RecvGate<usize> for ManyGate<'_, T,
 
     type Signal = Signal<A>;
 
-    ghost firsts = { λ old new next.
+    ghost first_turn = { λ old new next.
         (new.deadline ≡ old.deadline) × (new.most ≡ old.most) × receive.IsFirst next
         × GrowsBy old.most old.into.items new.into.items next
         × ReceivesBatch A old.into.items new.into.items next × LacksRoom old.into old.most next };
@@ -217,21 +205,21 @@ impl<T: Drop, R: Waits, A: Allocator + Copy> RecvGate<usize> for ManyGate<'_, T,
     ghost makes = { λ old new _. (new.deadline ≡ old.deadline) × (new.most ≡ old.most)
         × (new.into.items ≡ old.into.items) };
 
-    ghost parks = { λ old new next.
+    ghost parking_turn = { λ old new next.
         (new.deadline ≡ old.deadline) × (new.most ≡ old.most) × receive.IsParking next
         × GrowsBy old.most old.into.items new.into.items next
         × MakesMany {T = T} A (Recv Block) receive.after_recv next };
 
-    ghost agains = { λ old ticket late new next.
+    ghost parked_turn = { λ old ticket last new next.
         (new.deadline ≡ old.deadline) × (new.most ≡ old.most)
-        × receive.IsAgain ticket late next × receive.IsntRefused next
+        × receive.IsAgain ticket last next × receive.IsntRefused next
         × GrowsBy old.most old.into.items new.into.items next
-        × MakesMany {T = T} A (receive.step_of_parked_receive ticket late)
-        (receive.after_parked_receive ticket late) next };
+        × MakesMany {T = T} A (receive.step_of_parked_receive ticket last)
+        (receive.after_parked_receive ticket last) next };
 
-    ghost waits = { λ old new late.
+    ghost waits = { λ old new expired.
         (new.deadline ≡ old.deadline) × (new.most ≡ old.most)
-        × (new.into.items ≡ old.into.items) × (late ≡ true → old.deadline ≢ Never) };
+        × (new.into.items ≡ old.into.items) × (expired ≡ true → old.deadline ≢ Never) };
 
     ghost is_ready = { λ gate. vec_len gate.into < vec_capacity gate.into };
 
@@ -254,9 +242,9 @@ impl<T: Drop, R: Waits, A: Allocator + Copy> RecvGate<usize> for ManyGate<'_, T,
         self.receive_and_more(ParkReceive { kind, signal })
     }
 
-    fn again(&mut self, call: RecvCall, late: bool) -> RecvNext<usize> {
+    fn again(&mut self, call: RecvCall, last: bool) -> RecvNext<usize> {
         let signal = None;
-        self.receive_and_more(AgainReceive { call, late, signal })
+        self.receive_and_more(AgainReceive { call, last, signal })
     }
 
     fn wait(&mut self, parker: &Arc<Parker, A>) -> bool {

@@ -31,7 +31,8 @@ use std::time::{Duration, Instant};
 
 /// Receives the messages of a channel. Its clones receive from the same one, and each message goes
 /// to one of them. The channel closes with the last of them: blocked senders get their messages
-/// back, and what is queued stays until the last sender is dropped too.
+/// back, and what is queued stays until the last sender is dropped too. An error takes no message.
+/// `Disconnected`: none is there, and all senders have been dropped.
 pub struct Receiver<T, R: Waits, A: Allocator + Copy = Global> {
     shared: Arc<Shared<T, R, A>, A>,
 }
@@ -43,16 +44,13 @@ impl<T, R: Waits, A: Allocator + Copy> Model for Receiver<T, R, A> {
 }
 
 impl<T: Drop, R: Waits, A: Allocator + Copy> Receiver<T, R, A> {
-    // Counted already.
     pub(crate) fn from_shared(shared: Arc<Shared<T, R, A>, A>) -> Self
         ensures number { result ≡ shared.value.id }
     {
         Receiver { shared }
     }
 
-    /// Takes the next message, and doesn't wait. `Empty`: none is there. `Disconnected`: none is,
-    /// and all senders have been dropped. Never `NoMemory`.
-    ///
+    /// Takes the next message, and doesn't wait. `Empty`: none is there.
     /// ```
     /// let (tx, rx) = flume::on(rt).unbounded()?;
     /// assert_eq!(rt; rx.try_recv(), Err(TryRecvError::Empty));
@@ -69,9 +67,7 @@ impl<T: Drop, R: Waits, A: Allocator + Copy> Receiver<T, R, A> {
         try_receive_answer(self.shared.call_step(FirstReceive))
     }
 
-    /// Takes the next message, and waits while there is none. `Disconnected`: none is there, and
-    /// all senders have been dropped. `NoMemory`: there was no memory to wait.
-    ///
+    /// Takes the next message, and waits while there is none. `NoMemory`: no memory to wait.
     /// ```
     /// let (tx, rx) = flume::on(rt).unbounded()?;
     /// tx.send(42)?;
@@ -89,7 +85,6 @@ impl<T: Drop, R: Waits, A: Allocator + Copy> Receiver<T, R, A> {
         }
     }
 
-    // Out of line, so that a receive that needn't wait is short.
     #[cold]
     #[inline(never)]
     fn recv_from_empty(&self) -> Result<T, RecvError>
@@ -100,10 +95,8 @@ impl<T: Drop, R: Waits, A: Allocator + Copy> Receiver<T, R, A> {
         receive_answer(waiting_receive(&self.shared.rt, &mut gate))
     }
 
-    /// As `recv`, waiting up to the deadline. `Timeout`: it is reached, the channel is open, and no
-    /// message came. A clock that can't be read counts as past each deadline. A message that is
-    /// there is taken, even if the deadline was past before the call.
-    ///
+    /// As `recv`, waiting up to the deadline. `Timeout`: it is reached, or the clock can't be read,
+    /// and the channel is open. A message that is there is taken even after the deadline.
     /// ```
     /// let (_tx, rx) = flume::on(rt).unbounded::<u64>()?;
     /// let now = Instant::now(&rt)?;
@@ -116,7 +109,7 @@ impl<T: Drop, R: Waits, A: Allocator + Copy> Receiver<T, R, A> {
         recv_over(&self.shared.rt, &mut gate)
     }
 
-    /// As `recv_deadline`, with a timeout. If the deadline overflows, as `recv`.
+    /// As `recv_deadline`, so long from now; as `recv`, if no time of the clock is that late.
     pub fn recv_timeout(&self, timeout: Duration) -> Result<T, RecvTimeoutError>
         ensures made { (deadline : Deadline) × IsAfter timeout deadline
             × Receives A deadline result }
@@ -134,7 +127,6 @@ impl<T: Drop, R: Waits, A: Allocator + Copy> Receiver<T, R, A> {
     }
 
     /// The messages that are there, one after the other.
-    ///
     /// ```
     /// let (tx, rx) = flume::on(rt).unbounded()?;
     /// tx.send(1)?;
@@ -150,9 +142,7 @@ impl<T: Drop, R: Waits, A: Allocator + Copy> Receiver<T, R, A> {
         TryIter::new(self)
     }
 
-    /// Takes all messages that are queued, at once and in order. Then blocked sends are let in.
-    /// `NoMemory`: their list couldn't be allocated, and none was taken.
-    ///
+    /// Takes all queued messages in order; then lets blocked sends in. `NoMemory`: none for a list.
     /// ```
     /// let (tx, rx) = flume::on(rt).unbounded()?;
     /// tx.send(1)?;
@@ -166,10 +156,6 @@ impl<T: Drop, R: Waits, A: Allocator + Copy> Receiver<T, R, A> {
         ensures made { HasMade {A = A} Step.Drain after_drain result }
     {
         Drain::answer(self.shared.single(Single::Drain))
-    }
-
-    pub(crate) fn runtime(&self) -> &R {
-        &self.shared.rt
     }
 
     #[inline(always)]
@@ -244,7 +230,6 @@ impl<T: Drop, R: Waits, A: Allocator + Copy> Receiver<T, R, A> {
     /// How many sends are blocked now: calls that wait, polled futures and sinks, and arms of
     /// selections. One whose message was taken in isn't counted. One whose channel closed is, until
     /// it has its message back. Doesn't allocate.
-    ///
     /// ```
     /// let (tx, rx) = flume::on(rt).bounded::<u64>(0)?;
     /// let sender = thread::spawn(&rt, move || tx.send(7))?;
@@ -259,12 +244,12 @@ impl<T: Drop, R: Waits, A: Allocator + Copy> Receiver<T, R, A> {
     /// assert_eq!(rt; sender.join(&rt), Ok(()));
     /// ```
     pub fn blocked_senders(&self) -> usize {
-        self.shared.blocked_len()
+        self.shared.lock().blocked_len()
     }
 
     /// As `Sender::waiting_receivers`.
     pub fn waiting_receivers(&self) -> usize {
-        self.shared.waiting_len()
+        self.shared.lock().waiting_len()
     }
 }
 

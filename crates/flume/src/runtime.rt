@@ -3,12 +3,9 @@ use crate::shared::Waits;
 use std::alloc::{Alloc, Global};
 use std::thread::Threads;
 
-/// What a program that passes ends between its threads asks of its runtime value: all of `Waits`,
-/// and that it starts threads, gives the global allocator and borrows nothing. The host's runtime
-/// is one. If nothing opens a channel or starts a thread, `Waits` is enough, as in the first three
-/// of these. A function that prints adds `Print`, one that calls `block_on` adds `RandomSource`.
-/// For the `?` of an io result a crate lists `flume_error` next to `flume`.
-///
+/// What a program that passes ends between its threads asks of its runtime value. `Waits` is enough
+/// if nothing opens a channel or starts a thread, as in the first three. To print add `Print`, to
+/// call `block_on` add `RandomSource`. For the `?` of an io result a crate lists `flume_error`.
 /// ```
 /// // A function that takes an end.
 /// fn send_all<R: Waits>(tx: &Sender<u64, R>, most: u64) -> io::Result<()> {

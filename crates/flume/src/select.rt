@@ -37,9 +37,8 @@ use std::sync::Arc;
 use std::time::{Duration, Instant};
 
 /// Waits for the first of several sends and receives, its *arms*, on channels of any types. Each
-/// arm has a *mapper* from its result to a `V`. The type `L` lists the arms: so none is boxed, and
-/// a selector without arms has no method that waits.
-///
+/// arm has a *mapper* from its result to a `V`; only that of the arm that completes is called. The
+/// type `L` lists the arms: a selector without arms has no method that waits.
 /// ```
 /// let (jobs, work) = flume::on(rt).unbounded::<u64>()?;
 /// let (stop, stopped) = flume::on(rt).bounded::<()>(1)?;
@@ -53,7 +52,6 @@ use std::time::{Duration, Instant};
 #[derive(Drop)]
 pub struct Selector<'a, V, L = (), A: Allocator + Copy = Global> {
     arms: L,
-    // 0, unless a generator drew it: no answer depends on a generator that nobody handed in.
     start: usize,
     deadline: Deadline,
     value: PhantomData<&'a V>,
@@ -76,9 +74,8 @@ impl<'a, V, A: Allocator + Copy> Selector<'a, V, (), A> {
 }
 
 impl<'a, V, L: Arms<V, A> + Drop, A: Allocator + Copy> Selector<'a, V, L, A> {
-    /// Adds an arm that sends the message. Its mapper gets `Ok`, or `Disconnected` with the message
-    /// if all receivers have been dropped. If another arm completes first, the mapper isn't called,
-    /// and the message is dropped unless it was taken in by then.
+    /// Adds an arm that sends the message. Its mapper gets `Ok` or `Disconnected`. If another arm
+    /// completes first, the message is dropped unless it was taken in by then.
     pub fn send<T: Drop, F, R: Waits>(
         self,
         sender: &'a Sender<T, R, A>,
@@ -96,9 +93,8 @@ impl<'a, V, L: Arms<V, A> + Drop, A: Allocator + Copy> Selector<'a, V, L, A> {
         self.with(SendArm::new(sender, message, mapper))
     }
 
-    /// Adds an arm that receives a message. Its mapper gets the message, or `Disconnected` if none
-    /// is there and all senders have been dropped. If another arm completes first, the mapper isn't
-    /// called, and no message was taken.
+    /// Adds an arm that receives a message. Its mapper gets the message or `Disconnected`. If
+    /// another arm completes first, no message was taken.
     pub fn recv<T: Drop, F, R: Waits>(
         self,
         receiver: &'a Receiver<T, R, A>,
@@ -130,8 +126,7 @@ impl<'a, V, L: Arms<V, A> + Drop, A: Allocator + Copy> Selector<'a, V, L, A> {
 }
 
 impl<'a, V, L: AtLeastOneArm<V, A> + Drop, A: Allocator + Copy> Selector<'a, V, L, A> {
-    /// Begins with an arm that the generator draws, out of those added so far, each as likely.
-    /// Without it arm 0 begins.
+    /// Begins with an arm drawn from those added so far, each as likely; without it arm 0 begins.
     pub fn with_rng<G: Rng>(self, rng: &mut G) -> Self
         ensures arms { result.arms ≡ self.entry.arms }
         ensures within { result.start < L.count (L.mappers result.arms) }
@@ -145,8 +140,7 @@ impl<'a, V, L: AtLeastOneArm<V, A> + Drop, A: Allocator + Copy> Selector<'a, V, 
 
     /// Waits until an arm completes, and gives what its mapper makes of its result. The arms are
     /// tried in the order in which they were added, from the beginning arm on and then from arm 0.
-    /// The others are withdrawn before the mapper is called. `NoMemory`: out of memory, to wait or
-    /// in an arm; no mapper was called.
+    /// The others are withdrawn before the mapper is called. `NoMemory`: to wait, or in an arm.
     pub fn wait(self) -> Result<V, NoMemory>
         requires can_map { L.can_map (L.mappers self.arms) }
         ensures value { IfOk result (IsValue L.count L.maps (L.mappers self.entry.arms)) }
@@ -158,8 +152,7 @@ impl<'a, V, L: AtLeastOneArm<V, A> + Drop, A: Allocator + Copy> Selector<'a, V, 
         }
     }
 
-    /// As `wait`, up to the deadline. `Timeout`: it is reached, and no arm completed. A clock that
-    /// can't be read counts as past each deadline.
+    /// As `wait`, up to the deadline. `Timeout`: it is reached, or the clock can't be read.
     pub fn wait_deadline(self, deadline: Instant) -> Result<V, SelectError>
         requires can_map { L.can_map (L.mappers self.arms) }
         ensures value { IfOk result (IsValue L.count L.maps (L.mappers self.entry.arms)) }
@@ -167,7 +160,7 @@ impl<'a, V, L: AtLeastOneArm<V, A> + Drop, A: Allocator + Copy> Selector<'a, V, 
         self.select(Deadline::At(deadline))
     }
 
-    /// As `wait_deadline`, with a timeout. If the deadline overflows, it waits without one.
+    /// As `wait_deadline`, so long from now; as `wait`, if no time of the clock is that late.
     pub fn wait_timeout(self, timeout: Duration) -> Result<V, SelectError>
         requires can_map { L.can_map (L.mappers self.arms) }
         ensures value { IfOk result (IsValue L.count L.maps (L.mappers self.entry.arms)) }
@@ -176,13 +169,9 @@ impl<'a, V, L: AtLeastOneArm<V, A> + Drop, A: Allocator + Copy> Selector<'a, V, 
         self.select(deadline)
     }
 
-    /// Tries each arm once, in the order of `wait`, and doesn't wait. `None`: each would have to
-    /// wait. `NoMemory`: out of memory in an arm, and the arms behind it weren't tried. In both
-    /// cases no mapper was called.
-    ///
-    /// The message of a send arm that isn't taken in is dropped. A send arm and a receive arm of
-    /// one channel don't meet each other, since neither waits.
-    ///
+    /// Tries each arm once, in the order of `wait`. `None`: each would have to wait. `NoMemory`: in
+    /// an arm, and none behind it was tried. A message that isn't taken in is dropped. A send and a
+    /// receive of one channel don't meet each other, since neither waits.
     /// ```
     /// let (jobs, work) = flume::on(rt).unbounded::<u64>()?;
     /// let (_stop, stopped) = flume::on(rt).bounded::<u64>(1)?;
@@ -203,8 +192,7 @@ impl<'a, V, L: AtLeastOneArm<V, A> + Drop, A: Allocator + Copy> Selector<'a, V, 
         }
     }
 
-    // The arms are tried before the parker is made, so that a selection that is ready at once
-    // doesn't allocate.
+    // Tried before the parker is made: a selection that is ready at once doesn't allocate.
     fn select(mut self, deadline: Deadline) -> Result<V, SelectError>
         requires can_map { L.can_map (L.mappers self.arms) }
         ensures value { IfOk result (IsValue L.count L.maps (L.mappers self.entry.arms)) }
@@ -227,14 +215,14 @@ impl<'a, V, L: AtLeastOneArm<V, A> + Drop, A: Allocator + Copy> Selector<'a, V, 
 impl<'a, V, L: AtLeastOneArm<V, A>, A: Allocator + Copy> SelectGate for Selector<'a, V, L, A> {
     type Waiter = Arc<Parker, A>;
 
-    type Kept = (L::Mappers, usize, Deadline);
+    type Setup = (L::Mappers, usize, Deadline);
 
-    ghost kept = { λ selector.
+    ghost setup = { λ selector.
         (L.mappers selector.arms, selector.start, selector.deadline) };
 
-    ghost count = { λ kept. L.count kept.0 };
+    ghost count = { λ setup. L.count setup.0 };
 
-    ghost start = { λ kept. first_arm (L.count kept.0) kept.1 };
+    ghost start = { λ setup. first_arm (L.count setup.0) setup.1 };
 
     ghost is_done = { λ selector. L.has_completed selector.arms };
 
@@ -242,7 +230,7 @@ impl<'a, V, L: AtLeastOneArm<V, A>, A: Allocator + Copy> SelectGate for Selector
 
     ghost turns = { λ parks old arm new next. L.turns parks old.arms arm next new.arms };
 
-    ghost waits = { λ old new late. (new ≡ old) × (late ≡ true → old.deadline ≢ Never) };
+    ghost waits = { λ old new expired. (new ≡ old) × (expired ≡ true → old.deadline ≢ Never) };
 
     ghost withdraws = { λ old arm new. L.withdraws old.arms arm new.arms };
 
@@ -258,8 +246,7 @@ impl<'a, V, L: AtLeastOneArm<V, A>, A: Allocator + Copy> SelectGate for Selector
         }
     }
 
-    // One parker for all arms, made before an arm is started: if it fails, nothing is left in a
-    // channel.
+    // Made before an arm is started: if it fails, nothing is left in a channel.
     fn make_waiter(&mut self) -> Option<Arc<Parker, A>> {
         let parker = Parker::new(self.arms.checks());
         Arc::new(self.arms.alloc(), parker).ok()

@@ -24,9 +24,7 @@ use std::collections::VecDeque;
 use std::time::{Duration, Instant};
 
 impl<T: Drop, R: Waits, A: Allocator + Copy> Sender<T, R, A> {
-    /// Sends messages in order, as many as the channel takes in, and doesn't wait. The errors are
-    /// those of `try_send`. An error has the messages that weren't taken in, in order.
-    ///
+    /// Sends messages in order, as many as the channel takes in, with the errors of `try_send`.
     /// ```
     /// let (tx, rx) = flume::on(rt).bounded(2)?;
     /// let full = tx.try_send_many(vec![in rt.alloc(); 1, 2, 3]?);
@@ -46,10 +44,7 @@ impl<T: Drop, R: Waits, A: Allocator + Copy> Sender<T, R, A> {
         try_send_many_answer(self.shared().call_many(SendMany { messages }))
     }
 
-    /// Sends messages in order, and waits while the channel is full. Messages of other senders may
-    /// come between. The errors are those of `send`. An error has the messages that weren't taken
-    /// in, in order.
-    ///
+    /// Sends messages in order, as `send` does. Messages of other senders may come between.
     /// ```
     /// let (tx, rx) = flume::on(rt).unbounded()?;
     /// tx.send_many(vec![in rt.alloc(); 1, 2, 3]?)?;
@@ -69,9 +64,8 @@ impl<T: Drop, R: Waits, A: Allocator + Copy> Sender<T, R, A> {
         send_answer(self.send_many_until(messages, Deadline::Never))
     }
 
-    /// As `send_many`, waiting up to the deadline, which is one for all messages. What is sent by
-    /// then stays sent. The errors are those of `send_deadline`.
-    ///
+    /// As `send_many`, waiting up to the deadline, as `send_deadline` does. It is one for all
+    /// messages: what is sent by then stays sent.
     /// ```
     /// let (tx, _rx) = flume::on(rt).bounded(1)?;
     /// let late = tx.send_many_deadline(vec![in rt.alloc(); 1, 2, 3]?, Instant::now(&rt)?);
@@ -94,7 +88,7 @@ impl<T: Drop, R: Waits, A: Allocator + Copy> Sender<T, R, A> {
         self.send_many_until(messages, Deadline::At(deadline))
     }
 
-    /// As `send_many_deadline`, with a timeout. If the deadline overflows, as `send_many`.
+    /// As `send_many_deadline`, so long from now, as of `send_timeout`.
     pub fn send_many_timeout(
         &self,
         messages: Vec<T, A>,
@@ -156,9 +150,9 @@ impl<T: Drop, R: Waits, A: Allocator + Copy> Sender<T, R, A> {
         requires some { 0 < deque_len messages }
         requires full { (first : T) (behind : List T) → messages.items ≡ first ∷ behind
             → HasMade {A = A} (Step.TrySend first) after_try_send (SendNext.NeedSignal first) }
-        ensures taken_in { IfOk result (λ behind.
+        ensures ok { IfOk result (λ behind.
             SendsFirst A deadline messages.items (Ok behind.items)) }
-        ensures comes_back { IfErr result (λ error.
+        ensures error { IfErr result (λ error.
             SendsFirst A deadline messages.items (Err (error_list vec_items error))) }
         ensures others { IfOk result (λ behind. (first : T)
             × (messages.items ≡ first ∷ behind.items)) }

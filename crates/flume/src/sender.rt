@@ -26,11 +26,11 @@ use std::sync::Arc;
 use std::time::{Duration, Instant};
 
 /// Sends messages into a channel. Its clones send into the same one. The channel closes with the
-/// last of them: what is queued is still received.
+/// last of them: what is queued is still received. An error of a send has the messages that weren't
+/// taken in. `Disconnected`: all receivers have been dropped.
 ///
-/// After all senders and all receivers, the messages that are left are dropped, under the channel's
-/// lock. One that holds an end of its own channel prevents that. One whose `drop` upgrades a
-/// `WeakSender` of its own channel would wait for itself.
+/// What is left after all ends is dropped under the channel's lock: a message whose `drop` upgrades
+/// a `WeakSender` of its channel would wait for itself. One that holds an end of it prevents that.
 pub struct Sender<T, R: Waits, A: Allocator + Copy = Global> {
     shared: Arc<Shared<T, R, A>, A>,
 }
@@ -42,7 +42,6 @@ impl<T, R: Waits, A: Allocator + Copy> Model for Sender<T, R, A> {
 }
 
 impl<T: Drop, R: Waits, A: Allocator + Copy> Sender<T, R, A> {
-    // Counted already.
     pub(crate) fn from_shared(shared: Arc<Shared<T, R, A>, A>) -> Self
         ensures number { result ≡ shared.value.id }
     {
@@ -50,9 +49,6 @@ impl<T: Drop, R: Waits, A: Allocator + Copy> Sender<T, R, A> {
     }
 
     /// Sends a message, and doesn't wait. `Full`: the channel is full, and no receiver waits.
-    /// `Disconnected`: all receivers have been dropped. `NoMemory`: out of memory. Each gives the
-    /// message back.
-    ///
     /// ```
     /// let (tx, rx) = flume::on(rt).bounded(1)?;
     /// assert_eq!(rt; tx.try_send(1), Ok(()));
@@ -72,10 +68,7 @@ impl<T: Drop, R: Waits, A: Allocator + Copy> Sender<T, R, A> {
         try_send_answer(self.shared.call_step(FirstSend { message }))
     }
 
-    /// Sends a message, and waits while the channel is full. `Disconnected`: all receivers have
-    /// been dropped, and the message wasn't taken in. `NoMemory`: out of memory. Both give the
-    /// message back.
-    ///
+    /// Sends a message, and waits while the channel is full.
     /// ```
     /// let (tx, rx) = flume::on(rt).unbounded()?;
     /// assert_eq!(rt; tx.send(42), Ok(()));
@@ -93,10 +86,8 @@ impl<T: Drop, R: Waits, A: Allocator + Copy> Sender<T, R, A> {
         }
     }
 
-    /// As `send`, waiting up to the deadline. `Timeout`: it is reached, the channel is open, and
-    /// the message wasn't taken in. A clock that can't be read counts as past each deadline. If the
-    /// channel isn't full the message is sent, even if the deadline was past before the call.
-    ///
+    /// As `send`, waiting up to the deadline. `Timeout`: it is reached, or the clock can't be read,
+    /// and the channel is open. If it isn't full, the message is sent even after the deadline.
     /// ```
     /// let (tx, _rx) = flume::on(rt).bounded(1)?;
     /// let now = Instant::now(&rt)?;
@@ -113,7 +104,7 @@ impl<T: Drop, R: Waits, A: Allocator + Copy> Sender<T, R, A> {
         send_over(&self.shared.rt, &mut gate, message)
     }
 
-    /// As `send_deadline`, with a timeout. If the deadline overflows, as `send`.
+    /// As `send_deadline`, so long from now; as `send`, if no time of the clock is that late.
     pub fn send_timeout(&self, message: T, timeout: Duration) -> Result<(), SendTimeoutError<T>>
         ensures made { (deadline : Deadline) × IsAfter timeout deadline
             × Sends A deadline message result }
@@ -125,7 +116,6 @@ impl<T: Drop, R: Waits, A: Allocator + Copy> Sender<T, R, A> {
         send_over(&self.shared.rt, &mut gate, message)
     }
 
-    // Out of line, so that a send that needn't wait is short.
     #[cold]
     #[inline(never)]
     fn send_to_full(&self, message: T) -> Result<(), SendError<T>>
@@ -185,13 +175,9 @@ impl<T: Drop, R: Waits, A: Allocator + Copy> Sender<T, R, A> {
         self.shared.capacity()
     }
 
-    /// Sets the capacity. If it is raised, blocked sends are let in as far as there is room. If it
-    /// is lowered, what is queued stays, and sends wait until fewer messages are queued than the
-    /// capacity. At 0 a send waits for a receiver. No receiver is woken. Doesn't allocate.
-    ///
-    /// `Unbounded`: the channel has no capacity. `Disconnected`: all receivers, or all senders,
-    /// have been dropped. Both change nothing.
-    ///
+    /// Sets the capacity; an error changes nothing. If it is raised, blocked sends are let in as
+    /// far as there is room. If it is lowered, what is queued stays, and sends wait until fewer
+    /// messages are queued than the capacity. No receiver is woken. Doesn't allocate.
     /// ```
     /// let (tx, _rx) = flume::on(rt).bounded(1)?;
     /// assert_eq!(rt; tx.try_send(1), Ok(()));
@@ -227,9 +213,7 @@ impl<T: Drop, R: Waits, A: Allocator + Copy> Sender<T, R, A> {
         self.shared.truth(AskTruth::IsDisconnected)
     }
 
-    /// A sender that doesn't keep the channel open. `NoMemory`: there are as many ends as can be
-    /// counted.
-    ///
+    /// A sender that doesn't keep the channel open. `NoMemory`: no more ends can be counted.
     /// ```
     /// let (tx, _rx) = flume::on(rt).unbounded::<u64>()?;
     /// let weak = tx.downgrade()?;
@@ -252,20 +236,19 @@ impl<T: Drop, R: Waits, A: Allocator + Copy> Sender<T, R, A> {
 
     /// As `Receiver::blocked_senders`.
     pub fn blocked_senders(&self) -> usize {
-        self.shared.blocked_len()
+        self.shared.lock().blocked_len()
     }
 
     /// How many receives wait now: calls, polled futures and streams, and arms of selections. One
     /// that was woken, or was handed its message, isn't counted. Doesn't allocate.
     pub fn waiting_receivers(&self) -> usize {
-        self.shared.waiting_len()
+        self.shared.lock().waiting_len()
     }
 }
 
 impl<T: Drop, R: Waits, A: Allocator + Copy> Clone for Sender<T, R, A> {
     ghost is_clone = { λ sender copy. copy ≡ sender };
 
-    // Std's signature leaves no choice of the error.
     fn clone(&self) -> Result<Self, AllocError>
         ensures same { IfOk result (λ copy. copy ≡ self.now) }
         ensures made { IfOk result (λ _. HasReplied {T = T} {A = A} Step.CloneSender Reply.Done) }

@@ -24,7 +24,6 @@ use std::sync::{Arc, Mutex, MutexGuard, Wait};
 use std::time::Clock;
 
 /// What an end's runtime value gives: it waits, and reads a clock. The host's runtime is one.
-/// `Runtime` asks for more, and has the signatures that users write.
 pub trait Waits: Wait + Clock + Copy {}
 
 impl<R: Wait + Clock + Copy> Waits for R {}
@@ -67,7 +66,6 @@ impl<T: Drop, R: Waits, A: Allocator + Copy> Shared<T, R, A> {
         }
     }
 
-    // `None`: out of memory. It is called outside the lock.
     #[cold]
     #[inline(never)]
     pub(crate) fn new_parker(&self) -> Option<(Arc<Parker, A>, Signal<A>)> {
@@ -137,8 +135,7 @@ impl<T: Drop, R: Waits, A: Allocator + Copy> Shared<T, R, A> {
         locked.make(turn, &mut SignalBell { rt: self.rt })
     }
 
-    // If no send is blocked and no receiver waits, one step makes no ticket due, and none is looked
-    // for.
+    // If nobody is blocked or waits, one step makes no ticket due, and none is looked for.
     #[inline(always)]
     pub(crate) fn call_step<C: Turn<T, Signal<A>, A>>(&self, turn: C) -> C::Answer
         requires one_step { (old new : State T (Signal A)) (answer : C.Answer)
@@ -152,23 +149,12 @@ impl<T: Drop, R: Waits, A: Allocator + Copy> Shared<T, R, A> {
         };
         let locked = &mut *guard;
         locked.facts();
-        if locked.is_quiet() {
-            return locked.make_quietly(turn);
+        if locked.no_call_waits() {
+            return locked.make_without_bell(turn);
         }
         locked.make(turn, &mut SignalBell { rt: self.rt })
     }
 
-    #[inline(never)]
-    pub(crate) fn blocked_len(&self) -> usize {
-        self.lock().blocked_len()
-    }
-
-    #[inline(never)]
-    pub(crate) fn waiting_len(&self) -> usize {
-        self.lock().waiting_len()
-    }
-
-    // Out of line, so that a turn that is seldom made costs its caller's other turns nothing.
     #[cold]
     #[inline(never)]
     pub(crate) fn call_cold<C: Turn<T, Signal<A>, A>>(&self, turn: C) -> C::Answer

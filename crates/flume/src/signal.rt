@@ -20,7 +20,6 @@ const FIRED: u64 = 1;
 
 const ASLEEP: u64 = 2;
 
-// So many of a parker's last checks let other threads run.
 pub(crate) const YIELDS: u32 = 20;
 
 /// What one blocking call waits on, and others wake it by. A wait returns at once if a wake came
@@ -35,9 +34,7 @@ pub struct Parker {
 }
 
 impl Parker {
-    /// A parker without a wake. A wait on it checks so often for one before it sleeps. Doesn't
-    /// allocate.
-    ///
+    /// A parker without a wake. A wait checks so often for one before it sleeps. Doesn't allocate.
     /// ```
     /// let parker = Parker::new(0);
     /// parker.fire(&rt);
@@ -52,8 +49,7 @@ impl Parker {
         }
     }
 
-    /// Wakes the call that waits, or the next one that will. If none sleeps, it makes no system
-    /// call.
+    /// Wakes the call that waits, or the next one that will. No system call, if none sleeps.
     pub fn fire<R: Wait>(&self, rt: &R) {
         if self.word.swap(FIRED, Ordering::SeqCst) == ASLEEP {
             drop(self.falling_asleep.lock(rt));
@@ -79,7 +75,6 @@ impl Parker {
     }
 
     /// Waits for a wake, up to the deadline. A clock that can't be read counts as past it.
-    ///
     /// ```
     /// parker.wait_until(&rt, Instant::now(&rt)?);    // returns at once
     /// ```
@@ -107,7 +102,7 @@ impl Parker {
     // True, without a wait, if the deadline is reached.
     #[inline(always)]
     pub(crate) fn wait_up_to<R: Wait + Clock>(&self, rt: &R, deadline: Deadline) -> bool
-        ensures late { result ≡ true → deadline ≢ Deadline.Never }
+        ensures has_deadline { result ≡ true → deadline ≢ Deadline.Never }
         ensures ahead { result ≡ false → CanBeAhead deadline }
     {
         if deadline.is_reached(rt) {
@@ -120,8 +115,7 @@ impl Parker {
         false
     }
 
-    // The thread that is to wake it may wait for a processor, so between the last checks others
-    // run.
+    // The last checks let others run: the thread that is to wake it may wait for a processor.
     fn spin(&self) -> bool {
         for done in 0..self.checks {
             if self.word.load(Ordering::SeqCst) == FIRED {
@@ -140,7 +134,6 @@ impl Parker {
         self.compare_set(FIRED, IDLE)
     }
 
-    // False if a wake came before.
     fn begin_sleep(&self) -> bool {
         self.compare_set(IDLE, ASLEEP) || self.word.load(Ordering::SeqCst) == ASLEEP
     }
@@ -180,7 +173,6 @@ pub struct ArmSignal<A: Allocator = Global> {
 }
 
 impl<A: Allocator + Copy> ArmSignal<A> {
-    // `None`: the parker is shared as often as it can be.
     pub(crate) fn new(parker: &Arc<Parker, A>, arm: usize) -> Option<Self>
         ensures arm { IfSome result (λ signal. signal.arm ≡ arm) }
     {
@@ -201,7 +193,6 @@ impl<A: Allocator> ArmSignal<A> {
 pub enum Signal<A: Allocator = Global> {
     Parker(Arc<Parker, A>),
     Arm(ArmSignal<A>),
-    /// A call that is polled.
     Task(TaskSignal),
 }
 

@@ -9,8 +9,7 @@ use std::alloc::Allocator;
 
 #[derive(Drop)]
 pub(crate) struct Task {
-    // A name of no bytes. Each call has its own: a contract sees of an end its number alone, so no
-    // clause could name a source that the channel keeps.
+    // Of no bytes. Not the channel's: a contract sees of an end its number alone.
     source: Source,
 }
 
@@ -21,22 +20,20 @@ impl Task {
         }
     }
 
-    // If the executor can't make a waker, it polls the task again without a wake. Then this is the
-    // one that the call left before.
+    // If the executor can't make one, this is the one that the call left before.
     #[inline(never)]
     pub(crate) fn waker<A: Allocator>(
         &self,
         parked: Option<&Signal<A>>,
         cx: &mut Context<'_>,
     ) -> Option<Waker>
-        ensures armed { IsArmed cx.new }
-        ensures heard { Hears cx.new self.now.source.id }
+        ensures is_armed { IsArmed cx.new }
+        ensures hears { Hears cx.new self.now.source.id }
         ensures kept { Keeps cx.old cx.new }
-        ensures left { LeavesWaker cx.old cx.new result }
+        ensures waker { LeavesWaker cx.old cx.new result }
     {
-        // A waker wakes its task as it is dropped: a fresh one stored over the old one would have a
-        // task wake itself again and again. `register` leaves the old one if it is of the same
-        // task.
+        // A waker wakes its task as it is dropped: one stored over that of the same task would have
+        // a task wake itself again and again. `register` leaves that one.
         let mut waker = match parked {
             Some(Signal::Task(signal)) => signal.take(),
             _ => None,

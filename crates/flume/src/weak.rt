@@ -12,8 +12,7 @@ use std::fmt;
 use std::marker::Model;
 use std::sync::Arc;
 
-/// A sender that doesn't keep its channel open. It keeps the memory that the ends share, and no
-/// message.
+/// A sender that doesn't keep its channel open. It keeps only the memory that the ends share.
 #[derive(Drop)]
 pub struct WeakSender<T, R: Waits, A: Allocator + Copy = Global> {
     shared: Arc<Shared<T, R, A>, A>,
@@ -32,9 +31,7 @@ impl<T: Drop, R: Waits, A: Allocator + Copy> WeakSender<T, R, A> {
         WeakSender { shared }
     }
 
-    /// A sender, while one lives, even if all receivers have been dropped; `None` once the last has
-    /// been dropped. `NoMemory`: there are as many ends as can be counted.
-    ///
+    /// A sender, while one lives, even if no receiver does. `NoMemory`: as of `Sender::downgrade`.
     /// ```
     /// let (tx, rx) = flume::on(rt).unbounded()?;
     /// let weak = tx.downgrade()?;
@@ -58,9 +55,9 @@ fn upgrade_answer<T: Drop, R: Waits, A: Allocator + Copy>(
     reply: Reply<T, A>,
     shared: Arc<Shared<T, R, A>, A>,
 ) -> Result<Option<Sender<T, R, A>>, NoMemory>
-    ensures counted { (reply ≡ Reply.Done) ↔ (result ≡ Ok (Some shared.value.id)) }
-    ensures all_gone { (reply ≡ Reply.NoEnd) ↔ (result ≡ Ok None) }
-    ensures refused { reply ≢ Reply.Done → reply ≢ Reply.NoEnd → IsErr result }
+    ensures done { (reply ≡ Reply.Done) ↔ (result ≡ Ok (Some shared.value.id)) }
+    ensures no_end { (reply ≡ Reply.NoEnd) ↔ (result ≡ Ok None) }
+    ensures others { reply ≢ Reply.Done → reply ≢ Reply.NoEnd → IsErr result }
 {
     match reply {
         Reply::Done => Ok(Some(Sender::from_shared(shared))),

@@ -1,15 +1,13 @@
 -- The least number at which a history and receipts disagree, from the least misplaced number.
-use Rattle.std.proofs.Common.{◌≡◌, ℕ, ◌<◌, ◌≤◌, inl, inr, Bool, true, false, Option, Some, None}
-use Rattle.std.proofs.Common.{List, length, slice_get, get_or, Any, IfSome, IfNone, unwrap_or}
-use Rattle.std.proofs.Common.{refl, sym, ◌∙◌, arith}
+use Rattle.std.proofs.Common.{◌≡◌, ℕ, ◌<◌, ◌≤◌, inl, inr, Bool, true, false, Option, Some, None, List, length, slice_get, get_or, Any}
+use Rattle.std.proofs.Common.{IfSome, IfNone, unwrap_or, refl, sym, ◌∙◌, arith}
 use Rattle.std.proofs.lemmas.Bool.{cases_lt, false≢true}
 use Rattle.std.proofs.lemmas.Option.{slice_get_past, get_or_from_slice_get}
 use Rattle.flume_model.specs.declared.step.Step.{Step}
 use Rattle.flume_model.specs.declared.step.Reply.{Reply}
 use Rattle.flume_audit.specs.declared.receipt.Receipt.{Receipt}
 use Rattle.flume_audit.specs.Recorded.{History}
-use Rattle.flume_audit.specs.Settled.{NotAbove, AgreeAt, DisagreeAt, LeastDisagreement}
-use Rattle.flume_audit.specs.Settled.{has_one_receipt, receipts_at}
+use Rattle.flume_audit.specs.Settled.{NotAbove, AgreeAt, DisagreeAt, LeastDisagreement, has_one_receipt, receipts_at}
 use Rattle.flume_audit.specs.Misplaced.{IsLeast, Misplaced}
 use Rattle.flume_audit.proofs.AnyLemmas.{any_as}
 use Rattle.flume_audit.proofs.NeighbourLemmas.{there_if_not_above}
@@ -71,11 +69,11 @@ module _ {T A : Type 0} (history : History T A) (lists : List (List (Receipt T A
         let same : number ≡ length history = past.0 in omega (arith, within)
 
     -- at a number below it whose entry hasn't exactly one receipt they disagree, and not before
-    pub untold : (number : ℕ) (entry : Step T × Reply T A)
+    pub without_one_receipt : (number : ℕ) (entry : Step T × Reply T A)
         → number < unwrap_or end (length history) → slice_get history number ≡ Some entry
         → false ≡ has_one_receipt equal entry (receipts_at number lists) → AgreeBelow number
         → LeastDisagreement equal history lists number
-    untold number entry below at not agree = (
+    without_one_receipt number entry below at not agree = (
       inl (λ all_agree. false≢true (not ∙ all_agree entry at)),
       λ lower lt. agree_below lower (omega arith) (agree lower lt),
     )

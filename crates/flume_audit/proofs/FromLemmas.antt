@@ -1,6 +1,5 @@
 -- The elements of a list from a place on.
-use Rattle.std.proofs.Common.{◌≡◌, ℕ, ◌+◌, ◌<◌, ◌≤◌, List, [], ◌∷◌, length, map, drop, get_or}
-use Rattle.std.proofs.Common.{sym, add-one, drop-cons}
+use Rattle.std.proofs.Common.{◌≡◌, ℕ, ◌+◌, ◌<◌, ◌≤◌, List, [], ◌∷◌, length, map, drop, get_or, sym, add-one, drop-cons}
 use Rattle.std.proofs.Math.ListN.{drop_of_length-le}
 
 module _ {X Y : Type 0} (what : X → Y) (list : List X) (place : ℕ) where

@@ -1,6 +1,5 @@
 -- The least number with one property or another.
-use Rattle.std.proofs.Common.{◌≡◌, ℕ, ◌≤◌, ◌⊎◌, ◌↔◌, inl, inr, Option, Some, None, min}
-use Rattle.std.proofs.Common.{List, [], ◌∷◌, Any, refl, ap, arith}
+use Rattle.std.proofs.Common.{◌≡◌, ℕ, ◌≤◌, ◌⊎◌, ◌↔◌, inl, inr, Option, Some, None, min, List, [], ◌∷◌, Any, refl, ap, arith}
 use Rattle.std.proofs.Math.Nat.{min-eq_left, min-eq_right}
 use Rattle.std.proofs.lemmas.Bool.{cases_lt}
 use Rattle.flume_audit.specs.Misplaced.{IsLeast, lesser}

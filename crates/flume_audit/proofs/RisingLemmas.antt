@@ -1,7 +1,6 @@
 -- What a search finds in a list of receipts whose numbers rise as far as it looks.
-use Rattle.std.proofs.Common.{◌≡◌, ℕ, zero, suc, ◌<◌, ◌≤◌, ◌≢◌, inl, inr, Bool, cond}
-use Rattle.std.proofs.Common.{List, [], ◌∷◌, length, get_or, filter, slice_get, option_to_list, ltb}
-use Rattle.std.proofs.Common.{refl, ap, ◌∙◌, arith, nat_eq, lt-ltb, ltb-true, eq-eqb}
+use Rattle.std.proofs.Common.{◌≡◌, ℕ, zero, suc, ◌<◌, ◌≤◌, ◌≢◌, inl, inr, Bool, cond, List, [], ◌∷◌, length, get_or, filter, slice_get}
+use Rattle.std.proofs.Common.{option_to_list, ltb, refl, ap, ◌∙◌, arith, nat_eq, lt-ltb, ltb-true, eq-eqb}
 use Rattle.std.specs.List.Sorted.{IsPartitionedBy, IsPartitionPoint}
 use Rattle.std.proofs.lemmas.Bool.{ne_eqb, cond-false, cond-true, cases_lt}
 use Rattle.std.proofs.lemmas.Option.{slice_get_past, slice_get_read}

@@ -11,12 +11,11 @@ use Rattle.flume_model.specs.Log.{Log, Opening}
 use Rattle.flume_state.specs.State.{State}
 use Rattle.flume_core.specs.Represents.{Represents, Extends}
 use Rattle.flume_core.specs.PossibleReply.{PossibleReply}
-use Rattle.flume_core.proofs.Views.{queue_at_log}
+use Rattle.flume_core.proofs.ViewLemmas.{queue_at_log}
 use Rattle.flume_audit.specs.declared.receipt.Receipt.{Receipt}
 use Rattle.flume_audit.specs.Recorded.{History}
 use Rattle.flume_model.specs.Replies.{SameReply}
-use Rattle.flume_audit.specs.Weights.{GoesByMessages, DrainedWithin, history_weight}
-use Rattle.flume_audit.specs.Weights.{receipts_weight}
+use Rattle.flume_audit.specs.Weights.{GoesByMessages, DrainedWithin, history_weight, receipts_weight}
 
 -- what a list grew to after it had got more room
 pub pushed : {X : Type 0} {old roomy new : List X} (x : X) → roomy ≡ old → new ≡ roomy ++ x ∷ []

@@ -40,8 +40,7 @@ module _ {T A : Type 0} where
     pub stepped : IsTransition old step reply new
     pub becomes_due : BecomesDue old step reply new
 
-  -- A step of a book by a seat. The history gains it with the channel's reply; the receipt and the
-  -- answer have copies of that.
+  -- a step of a book by a seat: the receipt and the answer have copies of the reply
   pub record IsRecorded (old : Recorded T A) (seat : List (Receipt T A)) (step : Step T)
       (answer : Reply T A) (new : Recorded T A) (after : List (Receipt T A)) : Type 0 where
     pub reply : Reply T A

@@ -1,7 +1,6 @@
 -- When a history and receipts agree.
-use Rattle.std.specs.Prelude.{◌≡◌, ℕ, ◌<◌, ◌≤◌, ◌==◌, Bool, true, false}
-use Rattle.std.specs.Prelude.{◌⊎◌, List, [], ◌∷◌, length, filter, flat_map, Some, slice_get}
-use Rattle.std.specs.Prelude.{All, Any, AllPairs}
+use Rattle.std.specs.Prelude.{◌≡◌, ℕ, ◌<◌, ◌≤◌, ◌==◌, Bool, true, false, ◌⊎◌, List, [], ◌∷◌, length}
+use Rattle.std.specs.Prelude.{filter, flat_map, Some, slice_get, All, Any, AllPairs}
 use Rattle.flume_model.specs.declared.step.Step.{Step}
 use Rattle.flume_model.specs.declared.step.Reply.{Reply}
 use Rattle.flume_audit.specs.declared.receipt.Receipt.{Receipt}
@@ -34,9 +33,8 @@ module _ {T A : Type 0} where
         (entry : Step T × Reply T A) → slice_get history number ≡ Some entry
         → has_one_receipt entry (receipts_at number lists) ≡ true
 
-    -- They disagree at a number if they don't agree as above, or if a receipt with this number
-    -- isn't above the one before it. They disagree at the history's length if a receipt is past the
-    -- end.
+    -- they don't agree at a number, or a receipt with this number isn't above the one before it, or
+    -- the number is the history's length and a receipt is past the end
     abbrev pub DisagreeAt : History T A → List (List (Receipt T A)) → ℕ → Type 0
     DisagreeAt history lists number =
         (AgreeAt history lists number → ⊥)

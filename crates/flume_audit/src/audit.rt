@@ -16,9 +16,7 @@ use std::alloc::{Allocator, Global};
 use std::sync::ledger::{Blank, Ledger};
 use std::sync::{Mutex, MutexGuard, Wait};
 
-/// A book behind a lock. Each thread makes its steps with a seat of its own, and `close` says what
-/// happened under the lock. The history weighs what the receipts weigh, by any weight: so it has
-/// each step with its reply as often as they do, if drained lists are compared by their messages.
+/// A `Book` behind a lock: `close` says what happened under it. Each thread has a seat of its own.
 #[derive(Drop)]
 pub struct Audit<T, L: Ledger, R, W: Weigh<T, A> = Ones, A: Allocator = Global> {
     rt: R,
@@ -26,10 +24,7 @@ pub struct Audit<T, L: Ledger, R, W: Weigh<T, A> = Ones, A: Allocator = Global> 
 }
 
 impl<T: Copy, L: Ledger, R: Drop, W: Weigh<T, A>, A: Allocator + Copy> Audit<T, L, R, W, A> {
-    /// An audit of a new channel of this capacity, or unbounded if `None`, with this many seats, at
-    /// least one. `blank` is a new ledger with one part for each seat. `NoMemory`: the seats
-    /// couldn't be allocated.
-    ///
+    /// `Book::new`, with `rt` for the lock.
     /// ```
     /// let (audit, mut seats) = Audit::<u64, L, _>::new(rt, alloc, blank, None, 1)?;
     /// for seat in seats.iter_mut() {
@@ -62,7 +57,6 @@ impl<T: Copy, L: Ledger, R: Drop, W: Weigh<T, A>, A: Allocator + Copy> Audit<T, 
     }
 
     /// Ends the audit as `Book::close` does. Takes no lock; doesn't allocate.
-    ///
     /// ```
     /// let (closed, book) = audit.close(seats);         // Settled, where all seats are there
     /// book.history();                                  // each step with its reply
@@ -95,7 +89,6 @@ impl<T: Copy, L: Ledger, R: Drop, W: Weigh<T, A>, A: Allocator + Copy> Audit<T, 
 
 impl<T: Copy, L: Ledger, R: Wait, W: Weigh<T, A>, A: Allocator + Copy> Audit<T, L, R, W, A> {
     /// `Book::step`, under the lock.
-    ///
     /// ```
     /// let _ = audit.step(seat, Step::TrySend(5));      // Ok(Sent { filled: None })
     /// let _ = audit.step(seat, Step::TryRecv);         // Ok(Got(5))
@@ -107,7 +100,7 @@ impl<T: Copy, L: Ledger, R: Wait, W: Weigh<T, A>, A: Allocator + Copy> Audit<T, 
         self.lock().step(seat, step)
     }
 
-    // Locks the book without a call if no other thread has the lock.
+    // Without a call if no other thread has the lock.
     #[inline(always)]
     fn lock(&self) -> MutexGuard<'_, Book<T, L, W, A>> {
         match self.book.try_lock() {

@@ -24,8 +24,7 @@ use std::marker::{Model, PhantomData};
 use std::sync::ledger;
 use std::sync::ledger::{Blank, Ledger};
 
-/// A channel with its history: each step that was made, with its reply. Each seat keeps the
-/// receipts of its steps.
+/// A channel with its history: each step that was made, with its reply.
 #[derive(Drop)]
 pub struct Book<T, L: Ledger, W: Weigh<T, A> = Ones, A: Allocator = Global> {
     chan: Chan<T, (), A>,
@@ -63,10 +62,8 @@ impl<T, L: Ledger, W: Weigh<T, A>, A: Allocator> Model for Book<T, L, W, A> {
 }
 
 impl<T: Copy, L: Ledger, W: Weigh<T, A>, A: Allocator + Copy> Book<T, L, W, A> {
-    /// A book of a new channel of this capacity, or unbounded if `None`, with this many seats, at
-    /// least one. `blank` is a new ledger with one part for each seat. `NoMemory`: the seats
-    /// couldn't be allocated.
-    ///
+    /// A book of a new channel, unbounded if `None`, with this many seats. `blank` is a new ledger
+    /// with one part for each. `NoMemory`: the seats couldn't be allocated.
     /// ```
     /// let (mut book, mut seats) = Book::<u64, L>::new(alloc, blank, Some(1), 2)?;
     /// for seat in seats.iter_mut() {
@@ -103,10 +100,8 @@ impl<T: Copy, L: Ledger, W: Weigh<T, A>, A: Allocator + Copy> Book<T, L, W, A> {
         Ok((book, seated))
     }
 
-    /// Makes the step, adds it with its reply to the history, and gives the seat a receipt. The
-    /// answer is the reply. `NoMemory`: the entry, the receipt or the copies of a drained list
-    /// couldn't be allocated; nothing was done.
-    ///
+    /// Makes the step, records it with its reply, and gives the seat a receipt. `NoMemory`: nothing
+    /// was done; no room for the entry, the receipt or the copies of a drained list.
     /// ```
     /// let _ = book.step(seat, Step::TrySend(5));       // Ok(Sent { filled: None })
     /// let _ = book.step(seat, Step::TryRecv);          // Ok(Got(5))
@@ -121,8 +116,7 @@ impl<T: Copy, L: Ledger, W: Weigh<T, A>, A: Allocator + Copy> Book<T, L, W, A> {
         ensures unchanged { OnErr result (self.new ≡ self.old) }
         ensures seat_unchanged { OnErr result (seat.new ≡ seat.old) }
     {
-        // All is allocated first, so that each step that is made is recorded. A drained list is a
-        // block of memory, so the receipt and the answer have copies of the reply.
+        // All is allocated first, so that each step that is made is recorded.
         let alloc = *self.history.allocator();
         let drained = drain_len(&self.chan, &step);
         let room = Vec::with_capacity(alloc, drained)?;
@@ -144,7 +138,6 @@ impl<T: Copy, L: Ledger, W: Weigh<T, A>, A: Allocator + Copy> Book<T, L, W, A> {
     }
 
     /// Compares the history with the receipts of these seats, by `differs`. Doesn't allocate.
-    ///
     /// ```
     /// book.close(seats);                               // Settled, where all seats are there
     /// ```

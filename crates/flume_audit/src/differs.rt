@@ -12,15 +12,13 @@ use flume_model::step::{Reply, Step};
 use std::alloc::Allocator;
 use std::convert::AsSlice;
 
-/// The least number at which a history and the receipts of these lists disagree, or `None`. They
-/// agree at a number if exactly one receipt has it and equals the entry there. A receipt whose
-/// number isn't above the one before it in its list disagrees at its number. One past the end
-/// disagrees at the history's length. Doesn't allocate.
-///
+/// The least number at which a history and the receipts of these lists disagree. They agree at one
+/// if exactly one receipt has it and equals the entry there. A receipt that isn't above the one
+/// before it disagrees at its number, one past the end at the history's length. Doesn't allocate.
 /// ```
 /// let history: [(Step<u64>, Reply<u64>); 1] = [(Step::TrySend(1), Reply::Full(1))];
-/// let told: Vec<Receipt<u64>> = Vec::new(alloc);
-/// differs(&history, &[told]);        // Some(0): no receipt tells of the entry
+/// let receipts: Vec<Receipt<u64>> = Vec::new(alloc);
+/// differs(&history, &[receipts]);    // Some(0): no receipt has its number
 /// ```
 pub fn differs<T: Eq, A: Allocator, H: AsSlice<Receipt<T, A>>>(
     history: &[(Step<T>, Reply<T, A>)],
@@ -146,8 +144,7 @@ fn receipt_at<T, A: Allocator>(number: usize, list: &[Receipt<T, A>]) -> Option<
     }
 }
 
-// The list needn't rise, but it does below the least misplaced number, and no higher one is asked
-// for.
+// The list rises below the least misplaced number, and no higher one is asked for.
 fn place_of<T, A: Allocator>(number: usize, list: &[Receipt<T, A>]) -> usize
     requires before { (misplaced : ℕ) → NotAbove misplaced list.now → number < misplaced }
     ensures place { IsPartitionPoint (λ receipt. receipt.number < number)

@@ -1,10 +1,6 @@
-//! A channel that records its history, and compares it in the end with what its users were
-//! answered.
-//!
-//! A lock hides from contracts what happened under it. An `audit::Audit` records each step under
-//! its lock. Each user makes its steps with a *seat*, and gets a *receipt* of each. `close` answers
-//! whether history and receipts agree.
-//!
+//! A channel that records its history. A lock hides from contracts what happened under it, so an
+//! `audit::Audit` records each step there. Each user makes its steps with a *seat*, and gets a
+//! *receipt* of each; `close` answers whether history and receipts agree.
 //! ```
 //! let (audit, mut seats) = Audit::<u64, L, _>::new(rt, alloc, Blank::new(1), None, 1)?;
 //! for seat in seats.iter_mut() {
@@ -14,9 +10,8 @@
 //! let (closed, book) = audit.close(seats);         // Settled
 //! book.history().len();                            // 2
 //! ```
-//!
-//! `L` names the ledger of the standard library by which a seat belongs to one audit only. The
-//! history is always a run of the abstract channel. `book::Book` is the same without a lock.
+//! `L` names the ledger of the standard library by which a seat belongs to one audit only.
+//! `book::Book` is the same without a lock.
 #![tactic(auto)]
 
 pub mod audit;

@@ -11,7 +11,7 @@ use Rattle.flume_state.specs.declared.sends.LiveSend.{LiveSend}
 use Rattle.flume_state.specs.Notices.{no_longer_due}
 use Rattle.flume_state.specs.Sends.{SendMap, noticed_send, send_due_in, is_due_send}
 use Rattle.flume_state.specs.Receivers.{EntryList, NamesReceiver}
-use Rattle.flume_state.proofs.SendsLaws.{get-changed_same, get-changed_other}
+use Rattle.flume_state.proofs.SendMapLemmas.{get-changed_same, get-changed_other}
 use Rattle.flume_state.specs.State.{State}
 use Rattle.flume_calls.specs.Rings.{send_not_due}
 use Rattle.flume_state.specs.Signals.{NamesDueTicket, Send, Receive}

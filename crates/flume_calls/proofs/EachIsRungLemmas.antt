@@ -16,8 +16,8 @@ use Rattle.flume_model.specs.Entries.{entry_of, is_waiting}
 use Rattle.flume_model.specs.Log.{Log, Opening}
 use Rattle.flume_model.specs.Line.{next_ticket}
 use Rattle.flume_model.specs.Parked.{entries}
-use Rattle.flume_model.proofs.EntryMarks.{found_below}
-use Rattle.flume_model.proofs.EntryShape.{entries_apart, sides_apart}
+use Rattle.flume_model.proofs.EntryMarkLemmas.{found_below}
+use Rattle.flume_model.proofs.EntryShapeLemmas.{entries_apart, sides_apart}
 use Rattle.flume_state.specs.declared.notice.Notice.{Notice}
 use Rattle.flume_state.specs.declared.sends.LiveSend.{LiveSend}
 use Rattle.flume_state.specs.Sends.{NoDueSend, send_due_in}
@@ -25,9 +25,9 @@ use Rattle.flume_state.specs.Receivers.{EntryList, NoDueReceiver}
 use Rattle.flume_state.specs.State.{State, accepted_at, bare}
 use Rattle.flume_state.specs.Signals.{NamesDueTicket, Send, Receive, signal_of}
 use Rattle.flume_state.specs.Due.{waits_in, blocked_in, receiver_due_in}
-use Rattle.flume_state.proofs.SendsLaws.{get-changed_other}
+use Rattle.flume_state.proofs.SendMapLemmas.{get-changed_other}
 use Rattle.flume_core.specs.Represents.{Represents, IsReachable}
-use Rattle.flume_core.proofs.Views.{entry_at_log, live_by}
+use Rattle.flume_core.proofs.ViewLemmas.{entry_at_log, live_by}
 use Rattle.flume_calls.specs.Batches.{StepsBetween, NoSteps, FirstStep}
 use Rattle.flume_calls.specs.Polls.{AtMostOneStep, NoStep, OneStep}
 use Rattle.flume_calls.specs.Rings.{Rings, NoneDue, Rung, NoneDueAnyMore, receiver_not_due, send_not_due}

@@ -3,7 +3,7 @@ mod DueCountLemmas
 mod RingLemmas
 mod WhoIsDueLemmas
 mod EachIsRungLemmas
-mod QuietLemmas
+mod NoCallWaitsLemmas
 pub mod LeadsToLemmas
 mod AvailableLemmas
 mod ManyReceiveLemmas

@@ -20,19 +20,19 @@ use Rattle.flume_model.specs.Channel.{Channel, channel}
 use Rattle.flume_model.specs.Replies.{IsRun}
 use Rattle.flume_model.specs.WaitLaws.{Apart}
 use Rattle.flume_model.proofs.Common.{ne_eqb}
-use Rattle.flume_model.proofs.AskingCases.{Unfilled, polled_cases}
-use Rattle.flume_model.proofs.Fits.{Fits}
-use Rattle.flume_model.proofs.EntryLists.{ticket_of, entry_last}
-use Rattle.flume_model.proofs.EntryMarks.{left_out}
-use Rattle.flume_model.proofs.EntryChanges.{parks_under, none_by}
-use Rattle.flume_model.proofs.EntryShape.{entries_apart, fits_run}
+use Rattle.flume_model.proofs.AskingCaseLemmas.{Unfilled, polled_cases}
+use Rattle.flume_model.proofs.LawfulReplyLemmas.{Fits}
+use Rattle.flume_model.proofs.EntryListLemmas.{ticket_of, entry_last}
+use Rattle.flume_model.proofs.EntryMarkLemmas.{left_out}
+use Rattle.flume_model.proofs.EntryChangeLemmas.{parks_under, none_by}
+use Rattle.flume_model.proofs.EntryShapeLemmas.{entries_apart, fits_run}
 use Rattle.flume_state.specs.declared.notice.Notice.{Notice}
 use Rattle.flume_state.specs.declared.sends.LiveSend.{LiveSend}
 use Rattle.flume_state.specs.Sends.{send_due_in}
 use Rattle.flume_state.specs.State.{State, bare}
 use Rattle.flume_state.specs.Due.{blocked_in, waits_in, receiver_due_in, waits_by, SendDue, ReceiverDue}
 use Rattle.flume_core.specs.Represents.{Represents}
-use Rattle.flume_core.proofs.Views.{entry_at_log, none_mapped}
+use Rattle.flume_core.proofs.ViewLemmas.{entry_at_log, none_mapped}
 use Rattle.flume_calls.specs.Batches.{StepsBetween, NoSteps, FirstStep}
 
 -- of two sends, what one step may do

@@ -21,7 +21,6 @@ module _ {T S : Type 0} where
         → MayGoOn old new ticket
     BecomesFilled : (message : T) → mark_at old ticket ≡ Some Waiting
         → mark_at new ticket ≡ Some (Filled message) → MayGoOn old new ticket
-    -- its message is still blocked
     ChannelCloses : accepted_at old ticket ≡ Some false → accepted_at new ticket ≡ Some false
         → IsOpen old.senders old.receivers → IsClosed new.senders new.receivers
         → MayGoOn old new ticket

@@ -16,4 +16,4 @@ pub mod Polls
 pub mod PolledReceives
 pub mod PolledSends
 pub mod AtRest
-pub mod Quiet
+pub mod NoCallWaits

@@ -72,13 +72,11 @@ module _ {T A : Type 0} where
     None : (reply : Reply T A) → (first : RecvNext T) → made ≡ (TryRecv, reply) ∷ []
         → after_try_recv reply first → GivesNone first → after ≡ before → next ≡ with_more 0 first
         → FirstManyTable before made after next
-    -- the list couldn't grow
     NoRoom : made ≡ [] → after ≡ before → next ≡ Done (Err NoMemory)
         → FirstManyTable before made after next
 
 module _ {T A : Type 0} where
-  -- this many of those that were there were taken: all up to the most, or else as many as the list
-  -- has room for
+  -- this many of those that were there were taken: all up to the most, or as many as there is room
   abbrev pub TakesAll : ℕ → ℕ → ℕ → Vec T A → Type 0
   TakesAll most there count after =
       (count ≡ min most there) ⊎ ((count < min most there) × (vec_len after ≡ vec_capacity after))

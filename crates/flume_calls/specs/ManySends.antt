@@ -14,8 +14,7 @@ use Rattle.flume_core.specs.declared.error.TrySendError.{TrySendError}
 use Rattle.flume_core.specs.declared.error.TrySendError.TheVariants.{Full, Disconnected, NoMemory}
 
 module _ {T A : Type 0} where
-  -- From the messages to the steps with their replies and to the answer. Each message is offered
-  -- once, in order, up to the first that is refused. The error has that one and all behind it.
+  -- each message is offered once, in order, up to the first that is refused; the error has the rest
   pub data SendsMany : List T → List (Step T × Reply T A)
       → Result (Unit {0}) (TrySendError (VecDeque T A)) → Type 0 where
     NoneLeft : SendsMany [] [] (Ok tt)
@@ -29,7 +28,6 @@ module _ {T A : Type 0} where
     IsClosed : {message : T} {rest : List T} {left : VecDeque T A} → left.items ≡ message ∷ rest
         → SendsMany (message ∷ rest) ((TrySend message, reply.Closed message) ∷ [])
         (Err (Disconnected left))
-    -- out of memory
     IsRefused : {message : T} {rest : List T} {left : VecDeque T A} → left.items ≡ message ∷ rest
         → SendsMany (message ∷ rest) ((TrySend message, reply.NoMemory (Some message)) ∷ [])
         (Err (NoMemory left))

@@ -44,19 +44,17 @@ module _ {T S : Type 0} where
   pub data ReceivePoll (A : Type 0) (kind : Kind) (call : Option ℕ) (signal : Option S)
       (old new : State T S) (after : Option ℕ) (answer : Option (Result T RecvError))
       : Type 0 where
-    -- it isn't parked, and has no signal to park with
     Tries : (next : RecvNext T) → call ≡ None → signal ≡ None
         → Turned {A = A} TryRecv after_try_recv old new next
         → IsFirst next → IsntRefused next → FirstReceiveOutcome old new next
         → finishes_receive false next after answer
         → ReceivePoll A kind call signal old new after answer
-    -- it parks if it finds nothing
     Parks : (next : RecvNext T) → (given : S) → call ≡ None → signal ≡ Some given
         → Turned {A = A} (Recv kind) after_recv old new next → IsParking next
         → ParkReceiveOutcome kind given old new next
         → finishes_receive true next after answer
         → ReceivePoll A kind call signal old new after answer
-    -- it finds nothing, and has no signal to wait on with
+    -- it finds nothing, and has no signal to wait with
     Unsignalled : (ticket : ℕ) → call ≡ Some ticket → signal ≡ None → FindsNothing old → new ≡ old
         → after ≡ call → answer ≡ Some (Err NoMemory)
         → ReceivePoll A kind call signal old new after answer

@@ -50,21 +50,19 @@ module _ {T S : Type 0} where
       (after : PolledSend T) (answer : Option (Result (Unit {0}) (SendError T))) : Type 0 where
     AlreadyFinished : send ≡ Finished → new ≡ old → after ≡ Finished → answer ≡ Some (Ok tt)
         → SendPoll A send signal old new after answer
-    -- it isn't sent, and has no signal to block with
     Tries : (message : T) → (next : SendNext T) → send ≡ Unsent message → signal ≡ None
         → Turned {A = A} (TrySend message) after_try_send old new next
         → IsFirst message next → FirstSendOutcome message old new next
         → finishes_send next after answer → SendPoll A send signal old new after answer
-    -- it blocks if it finds no room
     Parks : (message : T) → (next : SendNext T) → (given : S) → send ≡ Unsent message
         → signal ≡ Some given → Turned {A = A} (Send message) after_send old new next
         → IsParking message next → ParkSendOutcome A message given old new next
         → finishes_send next after answer → SendPoll A send signal old new after answer
-    -- if it is held back and has no signal, it takes its message back
-    Asks : (late : Bool) → (ticket : ℕ) → (next : SendNext T) → send ≡ Parked ticket
-        → (late ≡ true → (signal ≡ None) × IsHeldBack ticket old)
-        → (late ≡ false → signal ≡ None → ¬ (IsHeldBack ticket old))
-        → Turned {A = A} (step_of_parked_send ticket late) (after_parked_send ticket late)
+    -- if it is blocked and has no signal, it takes its message back
+    Asks : (last : Bool) → (ticket : ℕ) → (next : SendNext T) → send ≡ Parked ticket
+        → (last ≡ true → (signal ≡ None) × IsHeldBack ticket old)
+        → (last ≡ false → signal ≡ None → ¬ (IsHeldBack ticket old))
+        → Turned {A = A} (step_of_parked_send ticket last) (after_parked_send ticket last)
         old new next
-        → IsAgain ticket late next → AgainSendOutcome A ticket late signal old new next
+        → IsAgain ticket last next → AgainSendOutcome A ticket last signal old new next
         → finishes_send next after answer → SendPoll A send signal old new after answer

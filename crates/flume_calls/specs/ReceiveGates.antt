@@ -12,54 +12,48 @@ module _ {T : Type 0} where
   got_or_no_memory (Ok message) = Ok message
   got_or_no_memory (Err error) = Err NoMemory
 
-module _ {G T : Type 0} (agains : G → ℕ → Bool → G → RecvNext T → Type 0) where
+module _ {G T : Type 0} (parked_turn : G → ℕ → Bool → G → RecvNext T → Type 0) where
   -- no turn of a parked receive runs out of memory
   abbrev pub IsNeverRefused : Type 0
-  IsNeverRefused = (old new : G) (ticket same : ℕ) (late : Bool)
-      → ¬ (agains old ticket late new (Refused same))
+  IsNeverRefused = (old new : G) (ticket same : ℕ) (last : Bool)
+      → ¬ (parked_turn old ticket last new (Refused same))
 
-module _ {G T : Type 0} (agains : G → ℕ → Bool → G → RecvNext T → Type 0)
+module _ {G T : Type 0} (parked_turn : G → ℕ → Bool → G → RecvNext T → Type 0)
     (waits : G → G → Bool → Type 0) where
-  -- a parked receive, from its gate and its ticket to its gate at the end and its result
+  -- A parked receive, from its gate and its ticket to its gate at the end and its result: it asks,
+  -- waits, and asks again until a turn ends it, at the deadline or out of memory by a withdrawal.
   pub data ParkedReceive : G → ℕ → G → Result T RecvTimeoutError → Type 0 where
-    -- the turn ended the call
     Asked : {old new : G} {ticket : ℕ} {result : Result T RecvTimeoutError}
-        → agains old ticket false new (Done result) → ParkedReceive old ticket new result
-    -- memory ran out: it withdraws
+        → parked_turn old ticket false new (Done result) → ParkedReceive old ticket new result
     Withdrawn : {old asked new : G} {ticket same : ℕ} {answer result : Result T RecvTimeoutError}
-        → agains old ticket false asked (Refused same) → agains asked same true new (Done answer)
+        → parked_turn old ticket false asked (Refused same)
+        → parked_turn asked same true new (Done answer)
         → result ≡ got_or_no_memory answer → ParkedReceive old ticket new result
-    -- the turn at its deadline ended the call
-    Late : {old asked waited new : G} {ticket same : ℕ} {result : Result T RecvTimeoutError}
-        → agains old ticket false asked (Park same) → waits asked waited true
-        → agains waited same true new (Done result) → ParkedReceive old ticket new result
-    -- it waits, and asks again
+    Expired : {old asked waited new : G} {ticket same : ℕ} {result : Result T RecvTimeoutError}
+        → parked_turn old ticket false asked (Park same) → waits asked waited true
+        → parked_turn waited same true new (Done result) → ParkedReceive old ticket new result
     Waited : {old asked waited new : G} {ticket same : ℕ} {result : Result T RecvTimeoutError}
-        → agains old ticket false asked (Park same) → waits asked waited false
+        → parked_turn old ticket false asked (Park same) → waits asked waited false
         → ParkedReceive waited same new result → ParkedReceive old ticket new result
 
-module _ {G T : Type 0} (firsts : G → G → RecvNext T → Type 0) (makes : G → G → Bool → Type 0)
-    (parks : G → G → RecvNext T → Type 0)
-    (agains : G → ℕ → Bool → G → RecvNext T → Type 0) (waits : G → G → Bool → Type 0) where
+module _ {G T : Type 0} (first_turn : G → G → RecvNext T → Type 0) (makes : G → G → Bool → Type 0)
+    (parking_turn : G → G → RecvNext T → Type 0)
+    (parked_turn : G → ℕ → Bool → G → RecvNext T → Type 0) (waits : G → G → Bool → Type 0) where
   -- a receive, from its gate to its gate at the end and its result
   pub data WholeReceive (old new : G) (result : Result T RecvTimeoutError) : Type 0 where
-    -- the first turn ended the call
-    AtFirst : firsts old new (Done result) → WholeReceive old new result
-    -- there was no memory for the waiter
-    NoWaiter : {first : G} → firsts old first NeedSignal → makes first new false
+    AtFirst : first_turn old new (Done result) → WholeReceive old new result
+    NoWaiter : {first : G} → first_turn old first NeedSignal → makes first new false
         → result ≡ Err NoMemory → WholeReceive old new result
-    -- the turn that may park ended the call
-    AtPark : {first made : G} → firsts old first NeedSignal → makes first made true
-        → parks made new (Done result) → WholeReceive old new result
-    -- it parked, and ended later
-    Parked : {first made parked : G} {ticket : ℕ} → firsts old first NeedSignal
-        → makes first made true → parks made parked (Park ticket)
-        → ParkedReceive agains waits parked ticket new result → WholeReceive old new result
+    AtPark : {first made : G} → first_turn old first NeedSignal → makes first made true
+        → parking_turn made new (Done result) → WholeReceive old new result
+    Parked : {first made parked : G} {ticket : ℕ} → first_turn old first NeedSignal
+        → makes first made true → parking_turn made parked (Park ticket)
+        → ParkedReceive parked_turn waits parked ticket new result → WholeReceive old new result
 
-module _ {G T : Type 0} (firsts : G → G → RecvNext T → Type 0) (makes : G → G → Bool → Type 0)
-    (parks : G → G → RecvNext T → Type 0) where
+module _ {G T : Type 0} (first_turn : G → G → RecvNext T → Type 0) (makes : G → G → Bool → Type 0)
+    (parking_turn : G → G → RecvNext T → Type 0) where
   -- a receive that ran out of memory before it was parked
   abbrev pub EndsUnparked : G → G → Type 0
-  EndsUnparked old new = firsts old new (Done (Err NoMemory))
-      ⊎ ((first : G) × firsts old first NeedSignal × (makes first new false
-      ⊎ ((made : G) × makes first made true × parks made new (Done (Err NoMemory)))))
+  EndsUnparked old new = first_turn old new (Done (Err NoMemory))
+      ⊎ ((first : G) × first_turn old first NeedSignal × (makes first new false
+      ⊎ ((made : G) × makes first made true × parking_turn made new (Done (Err NoMemory)))))

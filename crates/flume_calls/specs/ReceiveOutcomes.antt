@@ -40,11 +40,10 @@ module _ {T S : Type 0} where
         → next ≡ Done (Err NoMemory)
     pub unchanged : (error : RecvTimeoutError) → next ≡ Done (Err error) → new ≡ old
 
-  -- a turn of the receive parked under this ticket, by whether its deadline is reached; the signal
-  -- replaces the one that it left
-  pub record AgainReceiveOutcome (call : ℕ) (late : Bool) (signal : Option S)
+  -- a turn of the receive parked under this ticket; the signal replaces the one that it left
+  pub record AgainReceiveOutcome (call : ℕ) (last : Bool) (signal : Option S)
       (old new : State T S) (next : RecvNext T) : Type 0 where
-    pub waits : (next ≡ Park call) ↔ (late ≡ false)
+    pub waits : (next ≡ Park call) ↔ (last ≡ false)
         × ((receiver_status call old.entries ≡ Some BlockWaiting)
         ⊎ ((looks (receiver_status call old.entries) ≡ true)
         × ((with_front old).queue ≡ []) × IsOpen old.senders old.receivers))
@@ -52,20 +51,20 @@ module _ {T S : Type 0} where
         → new ≡ with_peak (again call (noticed_receiver (waits_on signal) call old.entries)) old
     pub collected : (message : T) → held_by (entry_of call old.entries) ≡ Some message
         → (next ≡ Done (Ok message)) × (new ≡ without_receiver call old)
-    pub got : (message : T) (rest : List T) → late ≡ false
+    pub got : (message : T) (rest : List T) → last ≡ false
         → looks (receiver_status call old.entries) ≡ true → (with_front old).queue ≡ message ∷ rest
         → (next ≡ Done (Ok message)) × (new ≡ without_receiver call (after_take rest old))
-    pub got_late : (message : T) (rest : List T) → late ≡ true
+    pub got_if_last : (message : T) (rest : List T) → last ≡ true
         → is_unfilled_block (receiver_status call old.entries) ≡ true
         → (with_front old).queue ≡ message ∷ rest
         → (next ≡ Done (Ok message)) × (new ≡ without_receiver call (after_take rest old))
-    pub ended : late ≡ false → looks (receiver_status call old.entries) ≡ true
+    pub ended : last ≡ false → looks (receiver_status call old.entries) ≡ true
         → (with_front old).queue ≡ [] → IsClosed old.senders old.receivers
         → (next ≡ Done (Err Disconnected)) × (new ≡ without_receiver call old)
     pub no_ticket : entry_of call old.entries ≡ None
         → (next ≡ Done (Err Disconnected)) × (new ≡ old)
     pub timeout : next ≡ Done (Err Timeout)
-        → (late ≡ true) × (filled : Option ℕ) × Departs old new call false filled
-    pub disconnected : next ≡ Done (Err Disconnected) → late ≡ true
+        → (last ≡ true) × (filled : Option ℕ) × Departs old new call false filled
+    pub disconnected : next ≡ Done (Err Disconnected) → last ≡ true
         → ((entry_of call old.entries ≡ None) × (new ≡ old))
         ⊎ ((filled : Option ℕ) × Departs old new call true filled)

@@ -13,21 +13,21 @@ use Rattle.flume_calls.specs.declared.calls.receive.RecvNext.TheVariants.{Done, 
 use Rattle.flume_calls.specs.declared.calls.receive.RecvNext.TheVariants.{Refused}
 
 module _ {T : Type 0} where
-  -- the first turn never parks and is never too late
+  -- the first turn never parks and never times out
   abbrev pub IsFirst : RecvNext T → Type 0
   IsFirst (Done (Err Timeout)) = ⊥
   IsFirst (Park ticket) = ⊥
   IsFirst (Refused ticket) = ⊥
   IsFirst _ = Unit {0}
 
-  -- the turn that may park never needs a signal and is never too late
+  -- the turn that may park never needs a signal and never times out
   abbrev pub IsParking : RecvNext T → Type 0
   IsParking (Done (Err Timeout)) = ⊥
   IsParking NeedSignal = ⊥
   IsParking (Refused ticket) = ⊥
   IsParking _ = Unit {0}
 
-  -- a turn of the receive parked under this ticket, before its deadline
+  -- a turn of the receive parked under this ticket that isn't its last
   abbrev pub IsLater : ℕ → RecvNext T → Type 0
   IsLater ticket (Done (Err Timeout)) = ⊥
   IsLater ticket (Done (Err NoMemory)) = ⊥
@@ -36,13 +36,13 @@ module _ {T : Type 0} where
   IsLater ticket (Refused same) = same ≡ ticket
   IsLater ticket _ = Unit {0}
 
-  -- the turn of a parked receive at its deadline
+  -- the last turn of a parked receive, which withdraws
   abbrev pub IsEnd : RecvNext T → Type 0
   IsEnd (Done (Err NoMemory)) = ⊥
   IsEnd (Done result) = Unit {0}
   IsEnd _ = ⊥
 
-  -- a turn of a parked receive, by whether its deadline is reached
+  -- a turn of a parked receive, by whether it is the last
   abbrev pub IsAgain : ℕ → Bool → RecvNext T → Type 0
   IsAgain ticket false next = IsLater ticket next
   IsAgain ticket true next = IsEnd next
@@ -59,16 +59,14 @@ module _ {T : Type 0} where
   GivesNone (Done (Err error)) = Unit {0}
   GivesNone _ = ⊥
 
-  -- the step of a parked receive's turn: if its deadline is reached, it leaves
+  -- the step of a parked receive's turn, by whether it is the last
   abbrev pub step_of_parked_receive : ℕ → Bool → Step T
   step_of_parked_receive ticket false = Poll ticket
   step_of_parked_receive ticket true = Withdraw ticket
 
 module _ {T A : Type 0} where
-  -- The tables: what is answered to each reply. A reply that isn't in a table never comes.
-
-  -- The first turn, to the reply of a `try_recv`. A `Chan` never answers `NoMemory` to it, nor to a
-  -- `poll`, but the abstract channel may.
+  -- The first turn, to the reply of a `try_recv`. A reply that isn't in a table never comes. To a
+  -- `try_recv` or a `poll` only the abstract channel may answer `NoMemory`, a `Chan` never does.
   abbrev pub after_try_recv : Reply T A → RecvNext T → Type 0
   after_try_recv (Got message) next = next ≡ Done (Ok message)
   after_try_recv Empty next = next ≡ NeedSignal
@@ -94,7 +92,7 @@ module _ {T A : Type 0} where
   after_poll ticket (reply.NoMemory back) next = next ≡ Refused ticket
   after_poll ticket _ next = ⊥
 
-  -- the turn at its deadline, to the reply of a `withdraw`
+  -- the last turn, to the reply of a `withdraw`
   abbrev pub after_withdraw : Reply T A → RecvNext T → Type 0
   after_withdraw (Got message) next = next ≡ Done (Ok message)
   after_withdraw (Gone true filled) next = next ≡ Done (Err Disconnected)
@@ -102,7 +100,7 @@ module _ {T A : Type 0} where
   after_withdraw NoTicket next = next ≡ Done (Err Disconnected)
   after_withdraw _ next = ⊥
 
-  -- a turn of a parked receive, by whether its deadline is reached
+  -- a turn of a parked receive, by whether it is the last
   abbrev pub after_parked_receive : ℕ → Bool → Reply T A → RecvNext T → Type 0
   after_parked_receive ticket false reply next = after_poll ticket reply next
   after_parked_receive ticket true reply next = after_withdraw reply next

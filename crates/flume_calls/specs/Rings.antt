@@ -12,8 +12,7 @@ use Rattle.flume_state.specs.State.{State}
 use Rattle.flume_state.specs.Signals.{NamesDueTicket, signal_of}
 
 module _ {B S : Type 0} (rings : B → ℕ → S → B → Type 0) {T : Type 0} where
-  -- The bell rings once for each due ticket, with the signal that it left last, until none is due.
-  -- There is no other ring.
+  -- one ring for each due ticket, with the signal that it left last, until none is due
   pub data Rings : State T S → B → State T S → B → Type 0 where
     NoneDue : {s : State T S} {bell : B} → NoDueSend s.sends → NoDueReceiver s.entries
         → Rings s bell s bell

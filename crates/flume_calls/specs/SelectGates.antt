@@ -12,15 +12,14 @@ abbrev pub next_arm : (count arm : ℕ) → ℕ
 next_arm count arm = if arm + 1 == count then 0 else arm + 1
 
 module _ {G : Type 0} (turns : G → ℕ → G → ArmNext → Type 0) (count start : ℕ) where
-  -- one turn of each of so many arms in cyclic order, from the start arm on to the `next`; each of
-  -- them waits
+  -- one turn of each of so many arms, from the start arm on to the `next`, and each of them waits
   pub data Waiting : G → (made next : ℕ) → G → Type 0 where
     NoTurn : {gate : G} → Waiting gate 0 start gate
     OneMore : {old between new : G} {made arm : ℕ} → Waiting old made arm between
         → turns between arm new ArmNext.Waits
         → Waiting old (made + 1) (next_arm count arm) new
 
-  -- a round: one turn of each arm, in cyclic order, up to the first that doesn't wait
+  -- one turn of each arm, in cyclic order, up to the first that doesn't wait
   pub data IsRound (old new : G) : RoundEnd → Type 0 where
     AllWait : {next : ℕ} → Waiting old count next new → IsRound old new RoundEnd.AllWait
     Completed : {between : G} {before arm : ℕ} → before < count → Waiting old before arm between
@@ -34,8 +33,7 @@ IfCompleted is_done (RoundEnd.Completed before arm) = is_done arm
 IfCompleted is_done _ = Unit {0}
 
 module _ {G : Type 0} (withdraws : G → ℕ → G → Type 0) (count start : ℕ) where
-  -- each of so many arms was withdrawn once, in cyclic order from the start arm on to the `next`,
-  -- but the one that is spared
+  -- one withdrawal of each of so many arms, from the start arm on to the `next`, but the spared one
   pub data Withdraws (spared : Option ℕ) : G → (passed next : ℕ) → G → Type 0 where
     NoArm : {gate : G} → Withdraws spared gate 0 start gate
     OneMore : {old between new : G} {passed arm : ℕ} → Withdraws spared old passed arm between
@@ -44,10 +42,9 @@ module _ {G : Type 0} (withdraws : G → ℕ → G → Type 0) (count start : �
     Spared : {old new : G} {passed arm : ℕ} → Withdraws spared old passed arm new
         → spared ≡ Some arm → Withdraws spared old (passed + 1) (next_arm count arm) new
 
-  -- How a selection with this many started arms ends after a round: all of them are withdrawn, but
-  -- the one that completed.
+  -- all of these started arms are withdrawn after a round, but the one that completed
   pub data EndsAfter (started : ℕ) : RoundEnd → G → G → Result ℕ SelectError → Type 0 where
-    Late : {old new : G} {next : ℕ} → Withdraws None old started next new
+    Expired : {old new : G} {next : ℕ} → Withdraws None old started next new
         → EndsAfter started RoundEnd.AllWait old new (Err Timeout)
     Won : {old new : G} {before arm next : ℕ} → Withdraws (Some arm) old started next new
         → EndsAfter started (RoundEnd.Completed before arm) old new (Ok arm)
@@ -56,8 +53,7 @@ module _ {G : Type 0} (withdraws : G → ℕ → G → Type 0) (count start : �
 
 module _ {G : Type 0} (turns : G → ℕ → G → ArmNext → Type 0) (waits : G → G → Bool → Type 0)
     (withdraws : G → ℕ → G → Type 0) (count start : ℕ) where
-  -- A selection whose arms are all started. It makes a round, and waits if all arms do; at the
-  -- deadline it makes one more.
+  -- a selection whose arms are all started: rounds, and waits between them; one at the deadline
   pub data StartedSelection : G → G → Result ℕ SelectError → Type 0 where
     Ended : {old polled new : G} {round : RoundEnd} {result : Result ℕ SelectError}
         → IsRound turns count start old polled round → round ≢ RoundEnd.AllWait
@@ -80,16 +76,14 @@ module _ {G : Type 0} (is_done : G → ℕ → Type 0) (count : ℕ) where
 
 module _ {G : Type 0} (makes : G → G → Bool → Type 0) (turns : G → ℕ → G → ArmNext → Type 0)
     (waits : G → G → Bool → Type 0) (withdraws : G → ℕ → G → Type 0) (count start : ℕ) where
-  -- a selection, from its gate to the gate at the end and the result
+  -- A selection, from its gate to the gate at the end and the result. If an arm completes or runs
+  -- out of memory as it is started, those after it aren't started.
   pub data WholeSelection (old new : G) : Result ℕ SelectError → Type 0 where
-    -- there was no memory for the waiter, and no arm was started
     NoWaiter : makes old new false → WholeSelection old new (Err NoMemory)
-    -- an arm completed as it was started; those after it were never started
     Won : {made won : G} {before arm next : ℕ} → makes old made true
         → IsRound turns count start made won (RoundEnd.Completed before arm)
         → Withdraws withdraws count start (Some arm) won before next new
         → WholeSelection old new (Ok arm)
-    -- memory ran out as an arm was started; those after it were never started
     Refused : {made refused : G} {before next : ℕ} → makes old made true
         → IsRound turns count start made refused (RoundEnd.NoMemory before)
         → Withdraws withdraws count start None refused before next new

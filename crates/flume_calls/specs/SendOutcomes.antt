@@ -1,7 +1,6 @@
 -- What each turn of a send says of the state before it and the state after it, by its answer.
-use Rattle.std.specs.Prelude.{◌≡◌, ◌≢◌, ℕ, ◌+◌, ◌<◌, ◌↔◌, Bool, true, false, Option, Some, None}
-use Rattle.std.specs.Prelude.{Ok, Err}
-use Rattle.std.specs.Prelude.{◌++◌, ◌∷◌, [], length}
+use Rattle.std.specs.Prelude.{◌≡◌, ◌≢◌, ℕ, ◌+◌, ◌<◌, ◌↔◌, Bool, true, false, Option, Some, None, Ok}
+use Rattle.std.specs.Prelude.{Err, ◌++◌, ◌∷◌, [], length}
 use Rattle.std.specs.FinMap.{get, insert, remove}
 use Rattle.flume_model.specs.Limits.{IsOpen, IsClosed, IsAtCapacity}
 use Rattle.flume_model.specs.Entries.{some_wait}
@@ -45,11 +44,10 @@ module _ {T S : Type 0} where
     pub ticket : IsReachable A old → (ticket : ℕ) → next ≡ Park ticket → ticket ≡ old.next
     pub unchanged : HandsBack next → new ≡ old
 
-  -- a turn of the send parked under this ticket, by whether its deadline is reached; the signal
-  -- replaces the one that it left
-  pub record AgainSendOutcome (A : Type 0) (call : ℕ) (late : Bool) (signal : Option S)
+  -- a turn of the send parked under this ticket; the signal replaces the one that it left
+  pub record AgainSendOutcome (A : Type 0) (call : ℕ) (last : Bool) (signal : Option S)
       (old new : State T S) (next : SendNext T) : Type 0 where
-    pub waits : (next ≡ Park call) ↔ (late ≡ false)
+    pub waits : (next ≡ Park call) ↔ (last ≡ false)
         × (accepted_at old call ≡ Some false) × IsOpen old.senders old.receivers
     pub replaced : next ≡ Park call
         → new ≡ record old { sends = noticed_send (with_signal signal) call old.sends }
@@ -58,6 +56,6 @@ module _ {T S : Type 0} where
     pub no_ticket : get old.sends call ≡ None → (next ≡ Done (Ok tt)) × (new ≡ old)
     pub taken_in : IsReachable A old → next ≡ Done (Ok tt) → accepted_at old call ≢ Some false
     pub timeout : (back : T) → next ≡ Done (Err (Timeout back))
-        → (late ≡ true) × Returns old new call back false
+        → (last ≡ true) × Returns old new call back false
     pub disconnected : (back : T) → next ≡ Done (Err (Disconnected back))
         → (closed : Bool) × Returns old new call back closed × (IsReachable A old → closed ≡ true)

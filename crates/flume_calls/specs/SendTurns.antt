@@ -12,7 +12,7 @@ use Rattle.flume_calls.specs.declared.calls.send.SendNext.{SendNext}
 use Rattle.flume_calls.specs.declared.calls.send.SendNext.TheVariants.{Done, NeedSignal, Park}
 
 module _ {T : Type 0} where
-  -- the first turn never parks and is never too late
+  -- the first turn never parks and never times out
   abbrev pub IsFirst : T → SendNext T → Type 0
   IsFirst message (Done (Ok sent)) = Unit {0}
   IsFirst message (Done (Err (Timeout back))) = ⊥
@@ -21,27 +21,27 @@ module _ {T : Type 0} where
   IsFirst message (NeedSignal back) = back ≡ message
   IsFirst message (Park ticket) = ⊥
 
-  -- the turn that may park never needs a signal and is never too late
+  -- the turn that may park never needs a signal and never times out
   abbrev pub IsParking : T → SendNext T → Type 0
   IsParking message (NeedSignal back) = ⊥
   IsParking message (Park ticket) = Unit {0}
   IsParking message other = IsFirst message other
 
-  -- a turn of the send parked under this ticket, before its deadline
+  -- a turn of the send parked under this ticket that isn't its last
   abbrev pub IsLater : ℕ → SendNext T → Type 0
   IsLater ticket (Done (Ok sent)) = Unit {0}
   IsLater ticket (Done (Err (Disconnected back))) = Unit {0}
   IsLater ticket (Park same) = same ≡ ticket
   IsLater ticket _ = ⊥
 
-  -- the turn of a parked send at its deadline
+  -- the last turn of a parked send, which withdraws
   abbrev pub IsEnd : SendNext T → Type 0
   IsEnd (Done (Ok sent)) = Unit {0}
   IsEnd (Done (Err (Disconnected back))) = Unit {0}
   IsEnd (Done (Err (Timeout back))) = Unit {0}
   IsEnd _ = ⊥
 
-  -- a turn of a parked send, by whether its deadline is reached
+  -- a turn of a parked send, by whether it is the last
   abbrev pub IsAgain : ℕ → Bool → SendNext T → Type 0
   IsAgain ticket false next = IsLater ticket next
   IsAgain ticket true next = IsEnd next
@@ -52,15 +52,13 @@ module _ {T : Type 0} where
   HandsBack (Done (Err error)) = Unit {0}
   HandsBack _ = ⊥
 
-  -- the step of a parked send's turn, by whether its deadline is reached
+  -- the step of a parked send's turn, by whether it is the last
   abbrev pub step_of_parked_send : ℕ → Bool → Step T
   step_of_parked_send ticket false = PollSend ticket
   step_of_parked_send ticket true = WithdrawSend ticket
 
 module _ {T A : Type 0} where
-  -- The tables: what is answered to each reply. A reply that isn't in a table never comes.
-
-  -- the first turn, to the reply of a `try_send`
+  -- the first turn, to the reply of a `try_send`; a reply that isn't in a table never comes
   abbrev pub after_try_send : Reply T A → SendNext T → Type 0
   after_try_send (Sent filled) next = next ≡ Done (Ok tt)
   after_try_send (Full back) next = next ≡ NeedSignal back
@@ -85,7 +83,7 @@ module _ {T A : Type 0} where
   after_poll_send ticket (Returned back closed) next = next ≡ Done (Err (Disconnected back))
   after_poll_send ticket _ next = ⊥
 
-  -- the turn at its deadline, to the reply of a `withdraw_send`
+  -- the last turn, to the reply of a `withdraw_send`
   abbrev pub after_withdraw_send : Reply T A → SendNext T → Type 0
   after_withdraw_send Accepted next = next ≡ Done (Ok tt)
   after_withdraw_send NoTicket next = next ≡ Done (Ok tt)
@@ -93,7 +91,7 @@ module _ {T A : Type 0} where
   after_withdraw_send (Returned back false) next = next ≡ Done (Err (Timeout back))
   after_withdraw_send _ next = ⊥
 
-  -- a turn of a parked send, by whether its deadline is reached
+  -- a turn of a parked send, by whether it is the last
   abbrev pub after_parked_send : ℕ → Bool → Reply T A → SendNext T → Type 0
   after_parked_send ticket false reply next = after_poll_send ticket reply next
   after_parked_send ticket true reply next = after_withdraw_send reply next

@@ -1,7 +1,4 @@
-//! The turns of sends and receives.
-//!
-//! `send` and `receive` are alike, here and in `gates`, `polled` and the selector's arms. One
-//! generic call would have a relation in place of each table.
+//! The turns of sends and receives: alike, but a generic one would need a relation for each table.
 
 mod receive;
 mod receive_many;

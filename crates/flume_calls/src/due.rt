@@ -18,9 +18,7 @@ pub trait Bell<S> {
         ensures { rings self.old ticket signal.now self.new };
 }
 
-/// Rings once for each ticket that is due, with the signal that it left last. No step; doesn't
-/// allocate.
-///
+/// Rings once for each due ticket, with the signal that it left last. No step; doesn't allocate.
 /// ```
 /// let mut chan: Chan<u64, u64> = Chan::new(alloc, Some(0));
 /// chan.send(5, 10);                  // Pending(1)

@@ -1,20 +1,14 @@
-//! The calls of a channel, between the steps of `flume_core` and the ends of `flume`.
-//!
-//! A call is a small state machine. Each *turn* of it makes one step of the channel, or several
-//! with nothing between them. The caller takes the lock, parks the thread and reads the clock.
-//!
+//! The calls of a channel, between the steps of `flume_core` and the ends of `flume`. A call is a
+//! small state machine. Each *turn* of it makes one step of the channel, or several with nothing
+//! between them. The caller takes the lock, parks the thread and reads the clock.
 //! ```
 //! let mut locked: Locked<u64, u64, Global> = Locked::new(alloc, Some(1));
 //! locked.make(FirstSend { message: 7 }, &mut bell);      // Done(Ok(()))
 //! locked.make(FirstSend { message: 8 }, &mut bell);      // NeedSignal(8): it is full
 //! locked.make(FirstReceive, &mut bell);                  // Done(Ok(7))
 //! ```
-//!
-//! - `locked`: the channel that a mutex holds.
-//! - `turn`, `calls`, `single`: the turns.
-//! - `gates`: the loops of calls that wait.
-//! - `polled`: calls that are polled, as futures are.
-//! - `due`: the *bell*, which notifies waiting calls.
+//! `turn`, `calls` and `single` have the turns, `gates` the loops of calls that wait, `polled` the
+//! calls that are polled, and `due` the *bell*, which notifies waiting calls.
 #![tactic(auto)]
 
 pub mod calls;

@@ -12,7 +12,7 @@ ghost use Rattle.flume_core.specs.StateFacts.{ChannelFacts, NobodyIsStuck};
 ghost use Rattle.flume_calls.specs.AtRest.{IsAtRest, IsCallAtRest};
 ghost use Rattle.flume_calls.specs.EachIsRung.{EachIsRung};
 ghost use Rattle.flume_calls.specs.Polls.{IsPollCall, AtMostOneStep};
-ghost use Rattle.flume_calls.specs.Quiet.{IsQuiet};
+ghost use Rattle.flume_calls.specs.NoCallWaits.{NoCallWaits};
 
 use crate::due::{Bell, fire_due};
 use crate::polled::Polled;
@@ -23,7 +23,6 @@ use std::alloc::Allocator;
 use std::marker::Model;
 
 /// A channel as its lock protects it between two calls.
-///
 /// ```
 /// let mut locked: Locked<u64, u64, Global> = Locked::new(rt.alloc(), Some(1));
 /// locked.make(FirstSend { message: 7 }, &mut bell);      // Done(Ok(()))
@@ -52,7 +51,7 @@ impl<T, S, A: Allocator> Model for Locked<T, S, A> {
 }
 
 impl<T: Drop, S: Drop, A: Allocator + Copy> Locked<T, S, A> {
-    /// A new channel of this capacity, or unbounded if `None`. Doesn't allocate.
+    /// A new channel; unbounded if `None`. Doesn't allocate.
     #[inline(always)]
     pub fn new(alloc: A, capacity: Option<usize>) -> Self
         ensures state { result ≡ new_state (opens capacity 1) }
@@ -73,8 +72,7 @@ impl<T: Drop, S: Drop, A: Allocator + Copy> Locked<T, S, A> {
         facts(&self.chan);
     }
 
-    // The path of a call that doesn't park is inlined, here and in the turns. The rest is out of
-    // line.
+    // The path of a call that doesn't park is inlined, here and in the turns.
     /// Makes the turn, and rings once for each ticket that is due then.
     #[inline(always)]
     pub fn make<C: Turn<T, S, A>, B: Bell<S>>(&mut self, turn: C, bell: &mut B) -> C::Answer
@@ -89,31 +87,29 @@ impl<T: Drop, S: Drop, A: Allocator + Copy> Locked<T, S, A> {
     }
 
     /// Whether no send is blocked and no receiver waits. No step.
-    ///
     /// ```
     /// let mut locked: Locked<u64, u64, Global> = Locked::new(rt.alloc(), Some(0));
-    /// locked.is_quiet();                                             // true
+    /// locked.no_call_waits();                                        // true
     /// let message = 7;
     /// let signal = 10;
     /// locked.make(ParkSend { message, signal }, &mut bell);          // Park(call)
-    /// locked.is_quiet();                                             // false
+    /// locked.no_call_waits();                                        // false
     /// ```
     #[inline(always)]
-    pub fn is_quiet(&self) -> bool
-        ensures quiet { IsTrue result ↔ IsQuiet self.now }
+    pub fn no_call_waits(&self) -> bool
+        ensures no_call_waits { IsTrue result ↔ NoCallWaits self.now }
     {
         self.chan.blocked_len() == 0 && self.chan.waiting_len() == 0
     }
 
     /// Makes a turn of at most one step, and rings no bell: no other call can go on by it.
-    ///
     /// ```
     /// let mut locked: Locked<u64, u64, Global> = Locked::new(rt.alloc(), None);
-    /// locked.make_quietly(FirstSend { message: 7 });                 // Done(Ok(()))
+    /// locked.make_without_bell(FirstSend { message: 7 });            // Done(Ok(()))
     /// ```
     #[inline(always)]
-    pub fn make_quietly<C: Turn<T, S, A>>(&mut self, turn: C) -> C::Answer
-        requires quiet { IsQuiet self.old }
+    pub fn make_without_bell<C: Turn<T, S, A>>(&mut self, turn: C) -> C::Answer
+        requires no_call_waits { NoCallWaits self.old }
         requires one_step { (new : State T S) (answer : C.Answer)
             → C.does turn self.old new answer → AtMostOneStep A self.old new }
         ensures does { C.does turn self.old self.new result }

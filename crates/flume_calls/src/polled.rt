@@ -11,16 +11,14 @@ pub use receive::PolledReceive;
 pub use send::PolledSend;
 use std::alloc::Allocator;
 
-/// A call on a channel of messages `T` and signals `S` that is polled until it ends. Its owner
-/// makes a signal only if it would wait.
+/// A call that is polled until it ends. Its owner makes a signal only if it would wait.
 pub trait Polled<T, S, A: Allocator> {
     /// What the call ends with.
     type Answer;
 
     ghost waits: { Self → State T S → Type 0 };
 
-    // The call before, the signal that it is given, the channel before and after, the call after,
-    // and the answer.
+    // The call, the signal that it is given, the channel before and after, the call after.
     ghost polls: { Self → Option S → State T S → State T S → Self → Option Self.Answer → Type 0 };
 
     ghost parked: { Self → Option ℕ };
@@ -33,8 +31,7 @@ pub trait Polled<T, S, A: Allocator> {
     fn would_wait(&self, chan: &Chan<T, S, A>) -> bool
         ensures waits { IsTrue result ↔ waits self.now chan.now };
 
-    // The checker proves no clauses of a trait's method that takes an `Option` of the trait's
-    // parameter by value.
+    // The checker proves no clause of a trait's method that takes an `Option<S>` by value.
     /// Polls the call, which may take the signal out of `signal`. `None`: it waits, and has left
     /// the signal. If it would wait and `signal` is `None`, it ends with `NoMemory`.
     fn poll(&mut self, chan: &mut Chan<T, S, A>, signal: &mut Option<S>) -> Option<Self::Answer>

@@ -11,15 +11,10 @@ use std::alloc::Allocator;
 /// The steps whose reply is the answer. A refusal changes nothing.
 #[derive(Clone, Copy, Drop)]
 pub enum Single {
-    /// Takes all that is queued: `Drained`, or `NoMemory`.
     Drain,
-    /// One more sender: `Done`, `NoEnd` or `CountFull`.
     CloneSender,
-    /// One more receiver: `Done`, `NoEnd` or `CountFull`.
     CloneReceiver,
-    /// One sender less: `Done`, or `NoEnd` if none was left.
     DropSender,
-    /// One receiver less: `Done`, or `NoEnd` if none was left.
     DropReceiver,
 }
 
@@ -53,11 +48,8 @@ impl<T: Drop, S: Drop, A: Allocator + Copy> Turn<T, S, A> for Single {
 /// The queries for a number.
 #[derive(Clone, Copy, Drop)]
 pub enum AskNumber {
-    /// How many messages are queued.
     Len,
-    /// How many senders live.
     SenderCount,
-    /// How many receivers live.
     ReceiverCount,
 }
 
@@ -91,11 +83,8 @@ impl<T: Drop, S: Drop, A: Allocator + Copy> Turn<T, S, A> for AskNumber {
 /// The queries for a truth.
 #[derive(Clone, Copy, Drop)]
 pub enum AskTruth {
-    /// Whether no message is queued.
     IsEmpty,
-    /// Whether a bounded channel's queue is at or past its capacity.
     IsFull,
-    /// Whether all senders or all receivers have been dropped.
     IsDisconnected,
 }
 
@@ -153,10 +142,8 @@ impl<T: Drop, S: Drop, A: Allocator + Copy> Turn<T, S, A> for AskCapacity {
 }
 
 /// Sets the capacity. `Unbounded`: the channel has none. `Disconnected`: it has one, and is closed.
-/// Both leave it as it was.
 #[derive(Clone, Copy, Drop)]
 pub struct SetCapacity {
-    /// The new capacity.
     pub capacity: usize,
 }
 

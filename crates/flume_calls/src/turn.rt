@@ -5,19 +5,16 @@ ghost use Rattle.flume_calls.specs.Batches.{LeadsTo};
 use flume_core::chan::Chan;
 use std::alloc::Allocator;
 
-/// Steps of a channel of messages `T` and signals `S`, with nothing between them, and the answer to
-/// their replies. A turn owns the message or the signal that it needs. It doesn't wait.
+/// Steps of a channel with nothing between them, and the answer to their replies. It doesn't wait.
 pub trait Turn<T, S, A: Allocator> {
     /// What the turn answers.
     type Answer;
 
-    // The states before and after, and the answer.
     ghost does: { Self → State T S → State T S → Self.Answer → Type 0 };
 
     ghost leads: { (turn : Self) (old new : State T S) (answer : Self.Answer)
         → does turn old new answer → LeadsTo A old new };
 
-    // What it may answer, whatever the channel.
     ghost answers: { Self → Self.Answer → Type 0 };
 
     /// Makes the steps, and answers to their replies.

@@ -53,6 +53,11 @@ module _ {E : Type 0} where
   put_before [] k x = x ∷ []
   put_before (y ∷ ys) k x = if k == y.place then x ∷ y ∷ ys else y ∷ put_before ys k x
 
+  -- the same ahead of that at the place that may be given, and else last
+  abbrev pub put_before_or_last : List (ChainItem E) → Option ℕ → ChainItem E → List (ChainItem E)
+  put_before_or_last items None x = items ++ x ∷ []
+  put_before_or_last items (Some k) x = put_before items k x
+
   -- the place of the first element
   abbrev pub first_place : List (ChainItem E) → Option ℕ
   first_place [] = None

@@ -13,9 +13,11 @@ module _ {E : Type 0} where
 
 module _ {L E : Type 0} where
   -- the elements with another value at a place where there is one
-  abbrev pub with_value_at : ℕ → List (ChainItem (LabelledValue L E)) → E → List (ChainItem (LabelledValue L E))
+  abbrev pub with_value_at : ℕ → List (ChainItem (LabelledValue L E)) → E
+      → List (ChainItem (LabelledValue L E))
   with_value_at k items v = changed_at (with_new_value v) k items
 
   -- the elements with another label at a place where there is one
-  abbrev pub with_label_at : ℕ → List (ChainItem (LabelledValue L E)) → L → List (ChainItem (LabelledValue L E))
+  abbrev pub with_label_at : ℕ → List (ChainItem (LabelledValue L E)) → L
+      → List (ChainItem (LabelledValue L E))
   with_label_at k items l = changed_at (with_new_label l) k items

@@ -66,8 +66,8 @@ module _ {L E Z : Type 0} where
   element_at s k = element_of (node_at s k)
 
   -- s with a value in the node at a place
-  abbrev pub with_value : Links L E Z → ℕ → E → Links L E Z
-  with_value s k v = record s { nodes = with_item s.nodes k (with_value_of (node_at s k) v) }
+  abbrev pub links_with_value : Links L E Z → ℕ → E → Links L E Z
+  links_with_value s k v = record s { nodes = with_item s.nodes k (with_value_of (node_at s k) v) }
 
   -- a node has this place, or it is `end`
   abbrev pub HasNode : Links L E Z → ℕ → Type 0

@@ -1,13 +1,12 @@
 //! Elements in order, each a value with a label. Taking one out costs the same wherever it is.
-ghost use Rattle.std.specs.Prelude.{◌≡◌, ◌≢◌, ◌<◌, ◌≤◌, ◌+◌, ◌++◌, ◌∷◌, [], Some, None, length};
-ghost use Rattle.std.specs.Prelude.{ℕ, true, false};
-ghost use Rattle.std.specs.Prelude.{IsOk, IfOk, IfErr, OnOk, OnErr, IfSome, IfNone, OnSome, IsSome};
-ghost use Rattle.std.specs.Prelude.{option_copied, ◌↔◌};
+ghost use Rattle.std.specs.Prelude.{◌≡◌, ◌<◌, ◌≤◌, ◌+◌, ◌++◌, ◌∷◌, ◌↔◌, [], Some, None, length, ℕ};
+ghost use Rattle.std.specs.Prelude.{IsOk, IfOk, IfErr, OnOk, OnErr, IfNone, OnSome, IsSome};
+ghost use Rattle.std.specs.Prelude.{true, false, option_copied};
 ghost use Rattle.std.specs.Option.{option_map, option_copied_mut};
 ghost use Rattle.std.specs.Borrow.{sem};
-ghost use Rattle.flume_chain.specs.ChainState.{found, without_place, put_before, place_after};
-ghost use Rattle.flume_chain.specs.ChainState.{first_element, behind_first, moved_back};
-ghost use Rattle.flume_chain.specs.ChainState.{times, places};
+ghost use Rattle.flume_chain.specs.ChainState.{found, without_place, put_before_or_last};
+ghost use Rattle.flume_chain.specs.ChainState.{place_after, first_element, behind_first};
+ghost use Rattle.flume_chain.specs.ChainState.{moved_back, times, places};
 ghost use Rattle.flume_chain.specs.ChangedAt.{with_label_at};
 
 mod links;
@@ -128,7 +127,6 @@ impl<L: Drop, E: Drop, A: Allocator> Chain<L, E, A> {
         }
     }
 
-    // Apart from `get_mut`: it says of elements what `Links::value_mut` says of nodes.
     #[inline(always)]
     fn value_mut(&mut self, place: u32) -> &mut E
         requires occupied { IsSome (found self.old.items place) }
@@ -185,11 +183,11 @@ impl<L: Drop, E: Drop, A: Allocator> Chain<L, E, A> {
     #[inline(always)]
     pub fn insert_before(
         &mut self,
-        next: u32,
+        next: Option<u32>,
         element: LabelledValue<L, E>,
     ) -> Result<u32, LabelledValue<L, E>>
-        ensures inserted { IfOk result (λ place. self.new.items
-            ≡ put_before self.old.items next (record { place = place; element = element })) }
+        ensures inserted { IfOk result (λ place. self.new.items ≡ put_before_or_last self.old.items
+            next (record { place = place; element = element })) }
         ensures fresh { IfOk result (λ place. found self.old.items place ≡ None) }
         ensures fits { OnOk result (length self.new.items ≤ 4294967295) }
         ensures room { OnOk result (0 < self.old.room → self.new.room + 1 ≡ self.old.room) }
@@ -197,6 +195,10 @@ impl<L: Drop, E: Drop, A: Allocator> Chain<L, E, A> {
         ensures returned { IfErr result (λ back. back ≡ element) }
         ensures unchanged { OnErr result (self.new ≡ self.old) }
     {
+        let next = match next {
+            Some(next) => next,
+            None => return self.push_back(element),
+        };
         let Some(_) = self.links.get(next) else {
             return self.push_back(element);
         };
@@ -208,7 +210,7 @@ impl<L: Drop, E: Drop, A: Allocator> Chain<L, E, A> {
     /// Puts the element at a place behind all others; it keeps its place. `false` if there is none.
     #[inline(always)]
     pub fn move_back(&mut self, place: u32) -> bool
-        ensures stood { result ≡ true ↔ IsSome (found self.old.items place) }
+        ensures found { result ≡ true ↔ IsSome (found self.old.items place) }
         ensures moved { self.new.items ≡ moved_back self.old.items place }
         ensures room { self.new.room ≡ self.old.room }
         ensures unchanged { result ≡ false → self.new ≡ self.old }
@@ -241,7 +243,7 @@ impl<L: Drop, E: Drop, A: Allocator> Chain<L, E, A> {
     // Not by `remove`, which moves the element out, a part at a time and more than once.
     #[inline(always)]
     pub fn discard(&mut self, place: u32)
-        ensures left { self.new.items ≡ without_place self.old.items place }
+        ensures removed { self.new.items ≡ without_place self.old.items place }
         ensures room { self.new.room + length self.new.items
             ≡ self.old.room + length self.old.items }
     {

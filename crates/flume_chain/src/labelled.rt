@@ -3,7 +3,7 @@
 /// A value with a label, which its caller chooses.
 #[derive(Drop)]
 pub struct LabelledValue<L, E> {
-    /// The label. It is in the node, next to the links, and isn't allocated apart.
+    /// The label, in the node, next to the links.
     pub label: L,
     /// The value.
     pub value: E,

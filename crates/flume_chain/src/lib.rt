@@ -1,5 +1,5 @@
 //! A list from which each element can be taken out in constant time, wherever it is. A *place* is a
-//! number that names an element for as long as it is in the list.
+//! number that names an element while it is in the list, of at most 4,294,967,295 elements.
 //!
 //! ```
 //! let mut chain = Chain::new(alloc);
@@ -9,9 +9,6 @@
 //! chain.label(1).copied();           // Some(8)
 //! chain.next(0);                     // Some(1)
 //! ```
-//!
-//! A chain holds at most 4,294,967,295 elements. A channel keeps its messages, its parked receivers
-//! and its live sends in such chains.
 #![tactic(auto)]
 
 pub mod chain;

@@ -1,4 +1,4 @@
-mod Words
-mod Shown
-mod ItemLists
-mod Broken
+mod WordLemmas
+mod ShownLineLemmas
+mod ItemListLemmas
+mod BreakLemmas

@@ -23,7 +23,7 @@ use Rattle.flume_check.specs.ItemLines.{item_lines}
 abbrev pub line_text : ℕ → List ℕ → List ℕ
 line_text number rest = codes "line " ++ decimal number ++ codes ": " ++ rest ++ 10 ∷ []
 
--- why a line is wrong, as it is printed
+-- what is printed of a wrong line
 abbrev pub fault_text : Fault → List ℕ
 fault_text NoOpening = codes "not an opening"
 fault_text NoEvent = codes "not an event"
@@ -31,7 +31,7 @@ fault_text NoCall = codes "not a call"
 fault_text NoAnswer = codes "not an answer"
 
 module _ {A : Type 0} where
-  -- the events, the oldest first, are explained on a new channel of this capacity
+  -- the events are explained on a new channel of this capacity
   abbrev pub AreExplained : Option ℕ → List (Event ℕ A) → Type 0
   AreExplained capacity events = IsExplained (λ x y. x == y) (opens capacity 1) events
 
@@ -50,7 +50,7 @@ module _ {A : Type 0} where
   but_text [] = []
   but_text (answer ∷ answers) = codes ", but " ++ answer_text answer ++ or_text answers
 
-  -- after these events, this thread's call could have returned this
+  -- after these events, the thread's call could have returned this
   abbrev pub IsPossible : Option ℕ → List (Event ℕ A) → ℕ → Answer ℕ A → Type 0
   IsPossible capacity before thread answer =
       AreExplained capacity (before ++ Returns thread answer ∷ [])
@@ -65,8 +65,7 @@ pub record Explains (A : Type 0) (input text : List ℕ) (status : ℕ) : Type 0
   pub text_is : text ≡ codes "correct" ++ 10 ∷ []
   pub status_is : status ≡ 0
 
--- each line is right, and the events are explained: the text is the first line, and then a line for
--- each item of an explanation
+-- the same; the text is the first line, and then a line for each item of an explanation
 pub record ShowsSteps (A : Type 0) (input text : List ℕ) (status : ℕ) : Type 0 where
   pub first : List ℕ
   pub rest : List (List ℕ)
@@ -81,8 +80,7 @@ pub record ShowsSteps (A : Type 0) (input text : List ℕ) (status : ℕ) : Type
   pub text_is : text ≡ first ++ 10 ∷ item_lines names items
   pub status_is : status ≡ 0
 
--- each line is right: the text names the first event with which the events aren't explained, and
--- answers that are possible there
+-- the text names the first event with which they aren't explained, and answers possible there
 pub record BreaksOff (A : Type 0) (input text : List ℕ) (status : ℕ) : Type 0 where
   pub capacity : Option ℕ
   pub before : List (Event ℕ A)
@@ -98,7 +96,7 @@ pub record BreaksOff (A : Type 0) (input text : List ℕ) (status : ℕ) : Type 
       text ≡ line_text (length before + 2) (recorded_text event ++ but_text answers)
   pub status_is : status ≡ 1
 
--- each line is right, and the events aren't explained: the text names a line before which they are
+-- the events aren't explained: the text names a line before which they are
 pub record IsWrongLater (A : Type 0) (input text : List ℕ) (status : ℕ) : Type 0 where
   pub capacity : Option ℕ
   pub events : List (Event ℕ A)
@@ -110,8 +108,7 @@ pub record IsWrongLater (A : Type 0) (input text : List ℕ) (status : ℕ) : Ty
   pub text_is : text ≡ line_text (count + 2) (codes "wrong, here or later")
   pub status_is : status ≡ 1
 
--- each line is right, and the limit was reached: the text names a line before which the events are
--- explained
+-- the limit was reached: the text names a line before which the events are explained
 pub record GivesUp (A : Type 0) (input text : List ℕ) (status : ℕ) : Type 0 where
   pub capacity : Option ℕ
   pub events : List (Event ℕ A)
@@ -130,8 +127,7 @@ pub record RefusesRecording (A : Type 0) (input text : List ℕ) (status : ℕ) 
   pub text_is : text ≡ line_text line (fault_text fault)
   pub status_is : status ≡ 2
 
--- this text is printed of these bytes, with this status; `shows` says whether with the steps; A
--- allocates the lists of the answers
+-- this text, with the steps if `shows`, and this status are the result for these bytes
 abbrev pub JudgesCalls : Type 0 → Bool → List ℕ → List ℕ → ℕ → Type 0
 JudgesCalls A shows input text status =
     MatchBool shows (ShowsSteps A input text status) (Explains A input text status)

@@ -3,10 +3,9 @@ use Rattle.std.specs.Prelude.{ℕ, Option, Some, None, List, [], ◌∷◌, ◌+
 use Rattle.flume_model.specs.declared.step.Step.{Step}
 use Rattle.flume_model.specs.declared.step.Step.TheVariants.{TrySend, Send, PollSend, WithdrawSend}
 use Rattle.flume_model.specs.declared.step.Step.TheVariants.{TryRecv, Recv, Poll, Withdraw, Drain}
-use Rattle.flume_model.specs.declared.step.Step.TheVariants.{CloneSender, CloneReceiver}
-use Rattle.flume_model.specs.declared.step.Step.TheVariants.{DropSender, DropReceiver, SetCapacity}
-use Rattle.flume_model.specs.declared.step.Step.TheVariants.{Len, IsEmpty}
-use Rattle.flume_model.specs.declared.step.Step.TheVariants.{IsFull, Capacity, SenderCount}
+use Rattle.flume_model.specs.declared.step.Step.TheVariants.{CloneSender, CloneReceiver, DropSender}
+use Rattle.flume_model.specs.declared.step.Step.TheVariants.{DropReceiver, SetCapacity, Len}
+use Rattle.flume_model.specs.declared.step.Step.TheVariants.{IsEmpty, IsFull, Capacity, SenderCount}
 use Rattle.flume_model.specs.declared.step.Step.TheVariants.{ReceiverCount, IsDisconnected}
 use Rattle.flume_script.specs.Script.{kind_name}
 use Rattle.flume_script.specs.ReplyTexts.{reply_text}
@@ -55,7 +54,7 @@ abbrev pub step_text : Step ℕ → List ℕ
 step_text step = worded (step_word step) (step_number step)
 
 module _ {A : Type 0} where
-  -- the line of an item and its line feed; that of a step begins with spaces, which no name has
+  -- the line of an item; that of a step begins with spaces, which no name has
   abbrev pub item_line : List (List ℕ) → Item ℕ A → List ℕ
   item_line names (Happens event) = event_text names event ++ 10 ∷ []
   item_line names (Makes thread step reply) =

@@ -7,15 +7,15 @@ abbrev pub first_word : List ℕ → List ℕ
 first_word [] = []
 first_word (x ∷ line) = if x == 32 then [] else x ∷ first_word line
 
--- the word has a colon as its end
+-- the word ends in a colon
 abbrev pub EndsInColon : List ℕ → Type 0
 EndsInColon word = (name : List ℕ) × (word ≡ name ++ 58 ∷ [])
 
--- the first word of the second line ends in a colon
+-- the second line's first word ends in a colon
 abbrev pub HasColon : List (List ℕ) → Type 0
 HasColon (first ∷ second ∷ rest) = EndsInColon (first_word second)
 HasColon _ = ⊥
 
--- the bytes are meant as a recording of calls; others are meant as a history of steps
+-- the bytes are read as a recording of calls, and else as a history of steps
 abbrev pub IsOfCalls : List ℕ → Type 0
 IsOfCalls input = HasColon (lines input)

@@ -12,7 +12,6 @@ use flume_recording::writing::write_event;
 use flume_script::writing::write_reply;
 use std::alloc::Allocator;
 
-// The first line, and a line for each item.
 pub(crate) fn write_items<A: Allocator + Copy>(
     alloc: A,
     first: &[u8],

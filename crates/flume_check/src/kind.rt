@@ -1,7 +1,6 @@
-//! Whether the input is a recording of calls, or a history of steps.
+//! Tells a recording of calls from a history of steps.
 ghost use Rattle.std.specs.Prelude.{IsTrue, ◌≡◌, ◌↔◌};
-ghost use Rattle.flume_check.specs.Kinds.{EndsInColon, IsOfCalls};
-ghost use Rattle.flume_check.specs.Kinds.{first_word as word_of};
+ghost use Rattle.flume_check.specs.Kinds.{EndsInColon, IsOfCalls, first_word as word_of};
 
 use flume_script::reading::{next_line, part_at};
 

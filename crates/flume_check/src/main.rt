@@ -54,9 +54,8 @@ fn asks_for_steps(rt: &HostRuntime) -> io::Result<bool> {
     )
 }
 
-// The status: 0, a correct channel could have produced it; 1, none could; 2, a line is wrong, and a
-// message says why; 3, out of memory; 4, the input couldn't be read or the text not be written; 6,
-// of a recording, not decided.
+// 0: a correct channel could have produced it; 1: none could; 2: a line is wrong; 3: out of memory;
+// 4: the input couldn't be read or the text not be written; 6: not decided.
 fn serve<A: Allocator + Copy, R: Read, W: Write, M: Write>(
     alloc: A,
     shows: bool,
@@ -86,7 +85,6 @@ fn serve<A: Allocator + Copy, R: Read, W: Write, M: Write>(
     }
 }
 
-// If that can't be said, the text that is printed still has the line's number.
 fn say_why<A: Allocator + Copy, M: Write>(
     alloc: A,
     input: &[u8],

@@ -6,7 +6,7 @@ use std::alloc::{AllocError, Allocator};
 
 pub(crate) const MOST: usize = 16;
 
-// Each once, and `MOST` at most.
+// Each once, and `MOST` at most, here and below.
 pub(crate) fn messages_in<A: Allocator + Copy>(
     alloc: A,
     events: &[Event<u64, A>],
@@ -20,7 +20,6 @@ pub(crate) fn messages_in<A: Allocator + Copy>(
     Ok(messages)
 }
 
-// Those that the channel was opened with or that calls set, each once, and `MOST` at most.
 pub(crate) fn capacities_in<A: Allocator + Copy>(
     alloc: A,
     opened: Option<usize>,
@@ -50,10 +49,10 @@ pub(crate) fn calls_in<A: Allocator>(events: &[Event<u64, A>]) -> usize {
 
 pub(crate) fn message_of(call: &Call<u64>) -> Option<u64> {
     match call {
-        Call::Send(message) => Some(*message),
-        Call::SendTimeout(message) => Some(*message),
-        Call::SendAsync(message) => Some(*message),
-        Call::TrySend(message) => Some(*message),
+        Call::Send(message)
+        | Call::SendTimeout(message)
+        | Call::SendAsync(message)
+        | Call::TrySend(message) => Some(*message),
         _ => None,
     }
 }

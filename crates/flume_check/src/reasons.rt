@@ -10,7 +10,6 @@ use flume_script::faults::{
 use flume_script::reading::{number, part_at};
 use std::alloc::Allocator;
 
-// The line is found by its number in the text that is printed of the input.
 pub(crate) fn explain_input<A: Allocator + Copy>(
     alloc: A,
     input: &[u8],
@@ -41,7 +40,7 @@ pub(crate) fn explain_input<A: Allocator + Copy>(
     Ok(text)
 }
 
-// The number of a line, and what is said of it, in a text such as `line 2: not a step`.
+// The number and the reason in a text such as `line 2: not a step`.
 fn parts_of(printed: &[u8]) -> (usize, &[u8]) {
     let printed = printed.strip_prefix(b"line ").unwrap_or(printed);
     let Some((digits, said)) = part_at(printed, b':') else {
@@ -51,7 +50,6 @@ fn parts_of(printed: &[u8]) -> (usize, &[u8]) {
     (place as usize, said.strip_prefix(b" ").unwrap_or(said))
 }
 
-// What is before the first such mark, and after it.
 fn parts_at<'l>(line: &'l [u8], mark: &[u8]) -> Option<(&'l [u8], &'l [u8])> {
     for place in 0..line.len() {
         if let Some(behind) = line[place..].strip_prefix(mark) {

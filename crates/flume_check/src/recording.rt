@@ -26,17 +26,13 @@ use std::alloc::Allocator;
 
 const LIMIT: usize = 10_000_000;
 
-/// Whether a correct channel could have given the answers of a recording. All lines are read first.
+/// What is printed of a recording, and the status. `NoMemory`: an allocation failed.
 ///
-/// - Status 2: a line is wrong; the text names the first wrong one and says why.
-/// - Status 0: the events are explained. The text is `correct`, or, if `shows`, the recording with
-///   the steps that explain it between its lines.
-/// - Status 1: the text names the first line whose event no correct channel can have come to, what
-///   is recorded there, and answers that are possible there. If that line wasn't found, the text
-///   names the first one that it can be.
-/// - Status 6: the limit was reached; the text names a line before which the events are explained.
-///
-/// `NoMemory`: an allocation failed.
+/// - 2: a line is wrong; the text names the first wrong one and says why.
+/// - 0: the events are explained; the text is `correct`, or, if `shows`, the lines and the steps.
+/// - 1: they aren't; the text names the first wrong line, its text, and answers that are possible
+///   there, or the first line that can be wrong.
+/// - 6: the limit was reached; the text names a line before which the events are explained.
 pub(crate) fn judge_recording<A: Allocator + Copy>(
     alloc: A,
     shows: bool,
@@ -108,7 +104,6 @@ fn judge<A: Allocator + Copy>(
     }
 }
 
-// The first line, and then the items, a line each.
 fn show<A: Allocator + Copy>(
     alloc: A,
     first: &[u8],
@@ -135,10 +130,9 @@ fn show<A: Allocator + Copy>(
     }
 }
 
-// The events before this one are explained.
 fn give_up<A: Allocator + Copy>(alloc: A, place: usize) -> Result<ScriptOutput<A>, NoMemory>
     requires room { place + 2 < 2 ^ 64 }
-    ensures leaves_open { IfOk result (λ script. (input : List ℕ) (capacity : Option ℕ)
+    ensures gives_up { IfOk result (λ script. (input : List ℕ) (capacity : Option ℕ)
         (events : List (Event ℕ A)) (names : List (List ℕ))
         → IsRecordingText (lines input) capacity events names
         → AreExplained capacity (take place events)
@@ -166,7 +160,6 @@ fn break_off<A: Allocator + Copy>(
     Ok(ScriptOutput { text, status: 1 })
 }
 
-// None, if the event isn't an answer.
 fn answers_for<A: Allocator + Copy>(
     alloc: A,
     capacity: Option<usize>,

@@ -1,5 +1,5 @@
 //! The texts that are printed of a recording.
-ghost use Rattle.std.specs.Prelude.{IfOk, OnOk, ◌≡◌, ◌++◌, codes, string_bytes};
+ghost use Rattle.std.specs.Prelude.{IfOk, OnOk, ◌≡◌, ◌++◌, string_bytes};
 ghost use Rattle.flume_check.specs.CallsText.{but_text, fault_text, line_text, or_text};
 ghost use Rattle.flume_check.specs.CallsText.{recorded_text};
 

@@ -41,8 +41,8 @@ module _ {T A : Type 0} where
   is_dropped RecvAsync Dropped = true
   is_dropped _ _ = false
 
-  -- whether a call at this stage may return this: the answer of its last step; or `NoMemory`, if it
-  -- was to park and that couldn't be allocated; a future that isn't parked may be dropped
+  -- whether a call at this stage may return this: the answer of its last step, `NoMemory` instead
+  -- of parking, or `Dropped` if it is a future that isn't parked
   abbrev pub may_return : (T → T → Bool) → Call T → Stage T A → Answer T A → Bool
   may_return equal call Begun recorded = is_dropped call recorded
   may_return equal call Tried recorded =

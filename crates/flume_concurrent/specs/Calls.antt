@@ -62,8 +62,7 @@ module _ {T A : Type 0} where
   next_step call (Refused t) = Some (step.Withdraw t)
   next_step call (Answered own) = None
 
-  -- the step that it may make instead: at its deadline, if the future is dropped, or if its waker
-  -- can't be allocated
+  -- the step that it may make instead: at its deadline, as it is dropped, or without a waker
   abbrev pub alternative_step : Call T → Stage T A → Option (Step T)
   alternative_step (call.SendAsync m) Begun = Some (step.TrySend m)
   alternative_step call.RecvAsync Begun = Some step.TryRecv

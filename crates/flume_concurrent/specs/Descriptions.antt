@@ -9,8 +9,7 @@ use Rattle.flume_concurrent.specs.Explanations.{IsExplanation}
 
 -- `equal` compares messages
 module _ {T A : Type 0} (equal : T → T → Bool) where
-  -- an item describes another: the same event, or a step of the same thread that equals it, with an
-  -- equal reply
+  -- an item describes another: the same event, or an equal step and reply of the same thread
   abbrev pub Describes : Item T A → Item T A → Type 0
   Describes (Happens event) (Happens other) = event ≡ other
   Describes (Makes t step reply) (Makes u other own) =

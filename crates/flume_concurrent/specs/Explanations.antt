@@ -57,8 +57,7 @@ module _ {T A : Type 0} (equal : T → T → Bool) where
   returns None recorded = false
   returns (Some current) recorded = may_return equal current.0 current.1 recorded
 
-  -- the item may come next: a thread begins a call if it has none open, and makes steps and returns
-  -- answers as its open call may at its stage
+  -- the item may come next: a call if its thread has none open, else what the open call may do
   abbrev pub Fits : List (Item T A) → Item T A → Type 0
   Fits past (Happens (Begins t call)) = open_call past t ≡ None
   Fits past (Happens (Returns t recorded)) = IsTrue (returns (open_call past t) recorded)
@@ -69,11 +68,9 @@ module _ {T A : Type 0} (equal : T → T → Bool) where
   AreCalls [] = Unit {0}
   AreCalls (item ∷ past) = Fits past item × AreCalls past
 
-  -- the items, the newest first, are an explanation of their events
+  -- the items, the newest first, are an explanation: what the threads' calls may do, by a run
   pub record IsExplanation (opening : Opening) (past : List (Item T A)) : Type 0 where
-    -- the threads' calls may do this
     pub calls : AreCalls past
-    -- the steps with their replies are a run
     pub run : IsRun opening (steps_in past)
 
   -- the events, the oldest first, have an explanation

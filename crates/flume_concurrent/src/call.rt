@@ -1,5 +1,4 @@
 //! A call on a channel, and what it returns.
-
 ghost use Rattle.std.specs.Prelude.{◌≡◌};
 ghost use Rattle.std.specs.Cmp.Lexicographic.{pointwise, lists_per};
 ghost use Rattle.std.proofs.lemmas.Cmp.{lists_equiv};
@@ -7,17 +6,15 @@ ghost use Rattle.std.proofs.lemmas.Cmp.{lists_equiv};
 use std::alloc::{Allocator, Global};
 use std::marker::Model;
 
-/// A call on an end of a channel, named as its method.
+/// A call, named as its method. `SendAsync` and `RecvAsync` are futures.
 #[derive(Clone, Copy, Debug, Drop)]
 pub enum Call<T> {
     Send(T),
     SendTimeout(T),
-    /// A future, which may be dropped at any time.
     SendAsync(T),
     TrySend(T),
     Recv,
     RecvTimeout,
-    /// A future, which may be dropped at any time.
     RecvAsync,
     TryRecv,
     Drain,
@@ -43,7 +40,6 @@ pub enum Answer<T, A: Allocator = Global> {
     Full,
     Got(T),
     Empty,
-    /// The channel is closed, and to a receive: no message is left.
     Disconnected,
     Timeout,
     NoMemory,
@@ -53,17 +49,16 @@ pub enum Answer<T, A: Allocator = Global> {
     Done,
     /// No such end is left.
     NoEnd,
-    /// There are as many such ends as can be counted.
+    /// No more such ends can be counted.
     CountFull,
     Number(usize),
     Truth(bool),
     /// `None` if unbounded.
     Capacity(Option<usize>),
-    /// There is no capacity to set.
     Unbounded,
 }
 
-/// A list of messages. A contract sees the messages, and not the memory that they are in.
+/// A list of messages. A contract sees the messages, not the memory that they are in.
 #[derive(Drop)]
 pub struct Messages<T, A: Allocator = Global> {
     list: Vec<T, A>,

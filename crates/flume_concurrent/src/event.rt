@@ -1,5 +1,4 @@
 //! What is recorded, and what explains it.
-
 use crate::call::{Answer, Call};
 use flume_model::step::{Reply, Step};
 use std::alloc::{Allocator, Global};

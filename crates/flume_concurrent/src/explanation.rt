@@ -17,19 +17,16 @@ use std::collections::BTreeMap;
 /// The result of a check.
 #[derive(Clone, Copy, Debug, PartialEq, Eq, Drop)]
 pub enum Explained {
-    /// They are an explanation of their events.
     Explains,
     /// This many items are an explanation, and with the next one they aren't.
     Breaks(usize),
-    /// The check itself ran out of memory: nothing is known of the items.
+    /// The check itself ran out of memory: nothing is known.
     NoMemory,
 }
 
-/// Whether the items, the oldest first, are an explanation of their events, on a channel of this
-/// capacity (`None`: unbounded) whose first ticket is 1: each step is one that the open call of its
-/// thread may make, each answer one that it may return, and each reply is lawful. Messages are
-/// compared by their `Eq`.
-///
+/// Whether the items, the oldest first, explain their events, on a new channel of this capacity
+/// (`None`: unbounded): each step is one that the open call of its thread may make, each answer one
+/// that it may return, and each reply is lawful. Messages are compared by their `Eq`.
 /// ```
 /// let items = [
 ///     Item::Happens(Event::Begins { thread: 0, call: Call::TrySend(5) }),

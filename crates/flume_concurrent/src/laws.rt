@@ -18,35 +18,33 @@ pub fn answers_are_equal_by_case<T: PartialEq, A: Allocator>()
         → ⟦<Answer<T, A> as PartialEq>⟧.eq recorded own ≡ equal_answers T.eq recorded own }
 {}
 
-/// Events that have an explanation have one in which steps come only just before a return, the last
-/// of them by the returning call. So a search need try no others.
+/// Explained events have an explanation in which steps come only just before a return, the last of
+/// them by the returning call. So a search need try no others.
 pub fn steps_may_come_late<T: Eq, A: Allocator>()
     ensures late { (opening : Opening) (events : List (Event T A))
         → IsExplained T.eq opening events → IsExplainedLate T.eq opening events }
 {}
 
-/// A beginning of explained events is explained. So the first event that isn't is found by halving.
+/// A beginning of explained events is explained, so the first event that isn't is found by halving.
 pub fn beginnings_are_explained<T: Eq, A: Allocator>()
     ensures beginning { (opening : Opening) (events : List (Event T A)) (n : ℕ)
         → IsExplained T.eq opening events → IsExplained T.eq opening (take n events) }
 {}
 
-/// Events that have an explanation whose steps come late have one in which, moreover, no step is
-/// idle. So a search need try no idle step.
+/// Late explanations can do without idle steps, so a search need try none.
 pub fn idle_steps_are_needless<T: Eq, A: Allocator>()
     ensures no_idle { (opening : Opening) (events : List (Event T A))
         → IsExplainedLate T.eq opening events → IsExplainedWithoutIdle T.eq opening events }
 {}
 
-/// Events that end in a receipt of a message have no explanation if no send of it has begun.
+/// Events are unexplained if they end in the receipt of a message of which no send has begun.
 pub fn only_what_was_sent_is_received<T: Eq, A: Allocator>()
     ensures sent { (opening : Opening) (events : List (Event T A))
         → IsExplained T.eq opening events → IsUnsent T.eq events → ⊥ }
 {}
 
-/// Events have no explanation if they end in a receipt of a message out of order: each send of it
-/// had returned before a send of another message began, which had been received before the call
-/// began that receives this one.
+/// Events are unexplained if they end in the receipt of a message out of order: each send of it had
+/// returned before a send of another began, which had been received before the last call began.
 pub fn messages_are_received_in_order<T: Eq, A: Allocator>()
     ensures order { (opening : Opening) (events : List (Event T A))
         → IsExplained T.eq opening events → IsOutOfOrder T.eq events → ⊥ }

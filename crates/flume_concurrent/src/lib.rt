@@ -1,5 +1,4 @@
-//! What threads recorded of their calls on a channel, and whether a correct channel could have
-//! answered so.
+//! Whether a correct channel could have produced what threads recorded of their calls.
 #![tactic(auto)]
 
 pub mod call;

@@ -61,7 +61,6 @@ impl<T: Copy + Eq> Call<T> {
     }
 }
 
-// The step that equals this one, if the thread's open call may make it.
 pub(crate) fn own_step<T: Copy + Eq + Drop, A: Allocator + Copy>(
     calls: &OpenCalls<T, A>,
     thread: usize,

@@ -1,4 +1,4 @@
-//! How far an open call is, the steps that it may make, and the stage after each reply.
+//! How far an open call is, and the steps that it may make.
 ghost use Rattle.std.specs.Prelude.{◌≡◌, ℕ, Option};
 ghost use Rattle.flume_concurrent.specs.Calls.{first_step, next_step, alternative_step};
 ghost use Rattle.flume_concurrent.specs.Calls.{stage_after};
@@ -8,22 +8,21 @@ use crate::call::{Answer, Call, Messages};
 use flume_model::step::{Kind, Reply, Step};
 use std::alloc::{Allocator, Global};
 
-/// How far an open call is.
+/// How far an open call is. `Parked` and `Refused` have its ticket.
 #[derive(Drop)]
 pub enum Stage<T, A: Allocator = Global> {
     Begun,
     /// It found no room or no message, and may park.
     Tried,
-    /// It waits under this ticket.
     Parked(u64),
-    /// It waits under this ticket and was answered `NoMemory`: it withdraws.
+    /// It is parked, and was answered `NoMemory`: it withdraws.
     Refused(u64),
     /// It has made its last step, and returns this.
     Answered(Answer<T, A>),
 }
 
 impl<T: Copy> Call<T> {
-    /// The first step of the call, and its only one if it doesn't wait.
+    /// Its first step, and its only one if it doesn't wait.
     pub fn first_step(&self) -> Step<T>
         ensures step { result ≡ first_step self.now }
     {
@@ -62,8 +61,7 @@ impl<T: Copy> Call<T> {
         }
     }
 
-    /// The step that it may make instead: at its deadline, if the future is dropped, or if its
-    /// waker can't be allocated.
+    /// The step that it may make instead: at its deadline, as it is dropped, or without a waker.
     pub fn alternative_step<A: Allocator>(&self, stage: &Stage<T, A>) -> Option<Step<T>>
         ensures step { result ≡ alternative_step self.now stage.now }
     {

@@ -1,5 +1,4 @@
-//! The calls of `flume_concurrent` make the steps of those of `flume_calls`, and each reply leads
-//! both to the same stage. No proof depends on these laws: they check the definitions.
+//! Laws that check the definitions of `flume_concurrent` against those of `flume_calls`.
 #![tactic(auto)]
 
 ghost use Rattle.std.specs.Prelude.{◌≡◌, ℕ, true, false, Some, Result};

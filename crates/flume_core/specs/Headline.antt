@@ -22,11 +22,8 @@ module _ {T A S : Type 0} where
     -- the blocked ones are the rest of these offers, unless both sides have disconnected
     pub blocked_are_rest : is_over log ≡ false
         → offers_of s.blocked ≡ drop (boundary opening log) (drop (hand_outs log) (kept log))
-    -- each reply is the abstract channel's
     pub replies_lawful : IsRun opening log
-    -- while a receiver waits, at least as many are woken as messages are queued
     pub woken_cover : WokenCoverQueued s
-    -- queued messages and waiting receivers are together within the greatest capacity or the peak
     pub queue_bounded : QueuedAndWaitingAreBounded s
 
 module _ {T A : Type 0} where

@@ -3,12 +3,11 @@ use Rattle.std.specs.Prelude.{◌≡◌, Some, None}
 use Rattle.flume_model.specs.declared.step.Step.{Step}
 use Rattle.flume_model.specs.declared.step.Step.TheVariants.{TrySend, Send, PollSend, WithdrawSend}
 use Rattle.flume_model.specs.declared.step.Step.TheVariants.{TryRecv, Recv, Poll, Withdraw, Drain}
-use Rattle.flume_model.specs.declared.step.Step.TheVariants.{CloneSender, CloneReceiver}
-use Rattle.flume_model.specs.declared.step.Step.TheVariants.{DropSender, DropReceiver, SetCapacity}
-use Rattle.flume_model.specs.declared.step.Step.TheVariants.{Len, IsEmpty, IsFull}
-use Rattle.flume_model.specs.declared.step.Step.TheVariants.{Capacity as AskCapacity}
-use Rattle.flume_model.specs.declared.step.Step.TheVariants.{SenderCount, ReceiverCount}
-use Rattle.flume_model.specs.declared.step.Step.TheVariants.{IsDisconnected}
+use Rattle.flume_model.specs.declared.step.Step.TheVariants.{CloneSender, CloneReceiver, DropSender}
+use Rattle.flume_model.specs.declared.step.Step.TheVariants.{DropReceiver, SetCapacity, Len}
+use Rattle.flume_model.specs.declared.step.Step.TheVariants.{IsEmpty, IsFull}
+use Rattle.flume_model.specs.declared.step.Step.TheVariants.{Capacity as AskCapacity, SenderCount}
+use Rattle.flume_model.specs.declared.step.Step.TheVariants.{ReceiverCount, IsDisconnected}
 use Rattle.flume_model.specs.declared.step.Reply.{Reply}
 use Rattle.flume_model.specs.declared.step.Reply.TheVariants.{Sent, Full, Closed, NoMemory, Spent}
 use Rattle.flume_model.specs.declared.step.Reply.TheVariants.{Pending, Accepted, Waiting, Returned}

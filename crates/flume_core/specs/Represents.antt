@@ -1,6 +1,5 @@
 -- What ties a state to a log, and what a step does to that.
-use Rattle.std.specs.Prelude.{◌≡◌, ℕ, Bool, not, if◌then◌else◌, ◌∷◌, map}
-use Rattle.std.specs.Prelude.{Option, Some, None}
+use Rattle.std.specs.Prelude.{◌≡◌, ℕ, Bool, not, if◌then◌else◌, ◌∷◌, map, Option, Some, None}
 use Rattle.flume_model.specs.declared.step.Step.{Step}
 use Rattle.flume_model.specs.declared.step.Step.TheVariants.{Poll, Len, IsEmpty, IsFull, Capacity}
 use Rattle.flume_model.specs.declared.step.Step.TheVariants.{SenderCount, ReceiverCount}

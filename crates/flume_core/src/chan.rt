@@ -23,13 +23,13 @@ use flume_state::line::Line;
 use std::alloc::{Allocator, Global};
 use std::marker::Model;
 
-/// A channel without its lock, as one value whose owner makes each step. `S` is the signal that a
-/// blocked send or a parked receiver leaves. Its messages, live sends and parked receivers are each
-/// in a `flume_chain::chain::Chain`: if that is full, a step answers `NoMemory`.
+/// A channel without its lock. `S` is the signal that a blocked send or a parked receiver leaves.
+/// `Reply` says what each reply means, and a refusal (`IsRefusal`) changes nothing. `NoMemory` also
+/// comes if a `flume_chain::chain::Chain` of messages, live sends or parked receivers is full.
 #[derive(Drop)]
 pub struct Chan<T, S, A: Allocator = Global> {
     capacity: Option<usize>,
-    // These two bound the queue, since the capacity in force may have been lowered under it.
+    // The greatest capacity so far: the capacity may have been lowered under the queue.
     greatest: Option<usize>,
     line: Line<T, S, A>,
     entries: Entries<T, S, A>,
@@ -64,9 +64,7 @@ impl<T, S, A: Allocator> Model for Chan<T, S, A> {
 }
 
 impl<T: Drop, S: Drop, A: Allocator + Copy> Chan<T, S, A> {
-    /// A channel with one sender, one receiver and no message, whose first ticket is 1. Its queue
-    /// has room for `capacity` messages; `None` is unbounded. Doesn't allocate.
-    ///
+    /// A channel with one sender and one receiver; unbounded if `None`. Doesn't allocate.
     /// ```
     /// let mut chan: Chan<u64, ()> = Chan::new(alloc, Some(1));
     /// chan.try_send(1);                  // Sent { filled: None }
@@ -80,8 +78,7 @@ impl<T: Drop, S: Drop, A: Allocator + Copy> Chan<T, S, A> {
         Chan::starting_at(alloc, capacity, 1)
     }
 
-    /// A channel as `new` makes it, with `ticket` as its first ticket. Doesn't allocate.
-    ///
+    /// As `new`, with `ticket` as the first ticket in place of 1.
     /// ```
     /// let mut chan: Chan<u64, ()> = Chan::starting_at(alloc, Some(0), 5);
     /// chan.send(7, ());                  // Pending(5)
@@ -123,7 +120,6 @@ impl<T: Drop, S: Drop, A: Allocator + Copy> Chan<T, S, A> {
 
 impl<T: Drop, A: Allocator + Copy> Chan<T, (), A> {
     /// Does one step: the call of the same name, with its reply.
-    ///
     /// ```
     /// let mut chan: Chan<u64, ()> = Chan::new(alloc, None);
     /// chan.step(Step::TrySend(42));      // Sent { filled: None }, as of chan.try_send(42)

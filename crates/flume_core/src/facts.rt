@@ -8,10 +8,7 @@ ghost use Rattle.flume_core.specs.StateFacts.{ChannelFacts, NobodyIsStuck};
 use crate::chan::Chan;
 use std::alloc::Allocator;
 
-/// What holds of every state that a run leads to. `rest`: once every woken receiver has looked,
-/// nobody waits for a message or for room that is there. `fits` holds in any state: the messages
-/// fit into the room that was allocated for them. Does nothing.
-///
+/// What holds of every state that a run leads to; `fits` holds of any. Does nothing.
 /// ```
 /// let mut chan: Chan<u64, u32> = Chan::new(alloc, Some(0));
 /// chan.send(7, 10);                  // Pending(1)

@@ -15,9 +15,7 @@ use flume_model::step::{Reply, Step};
 use std::alloc::Allocator;
 use std::collections::VecDeque;
 
-/// Does the steps in order, and answers one reply for each. If there is no memory for the replies,
-/// all steps come back and nothing was done.
-///
+/// Does the steps in order. If there is no memory for the replies, the steps come back undone.
 /// ```
 /// let mut chan: Chan<u64, ()> = Chan::new(alloc, None);
 /// let steps = vec![in alloc; Step::TrySend(1), Step::TryRecv]?;
@@ -57,9 +55,7 @@ pub fn run<T: Drop, A: Allocator + Copy>(
     Ok(replies)
 }
 
-/// The headline, for a caller who does the steps one by one: what holds of each log that represents
-/// the state. Does nothing.
-///
+/// The headline, for a caller who does the steps one by one. Does nothing.
 /// ```
 /// let mut chan: Chan<u64, ()> = Chan::new(alloc, None);
 /// chan.try_send(7);

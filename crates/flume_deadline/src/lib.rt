@@ -2,8 +2,8 @@
 //! from it can be proved. A clock that can't be read counts as past each deadline.
 #![tactic(auto)]
 
-ghost use Rattle.std.specs.Prelude.{◌≡◌, ◌≢◌, ℕ, ◌+◌, ◌<◌, ◌≤◌, ◌↔◌, true, false};
-ghost use Rattle.std.specs.Prelude.{IsErr, IsNone, IfSome, Ok};
+ghost use Rattle.std.specs.Prelude.{◌≡◌, ◌≢◌, ℕ, ◌+◌, ◌<◌, ◌≤◌, ◌↔◌, true, false, IsErr, IsNone};
+ghost use Rattle.std.specs.Prelude.{IfSome, Ok};
 ghost use Rattle.std.specs.Duration.{as_nanos};
 ghost use Rattle.std.specs.Time.{instant_nanos, FitsClock};
 ghost use Rattle.flume_deadline.specs.Deadlines.{IsAt, IsAfter, CanBeAhead};
@@ -11,14 +11,11 @@ ghost use Rattle.flume_deadline.specs.Deadlines.{IsAt, IsAfter, CanBeAhead};
 use std::io;
 use std::time::{Clock, Duration, Instant};
 
-/// The deadline of a call.
+/// The deadline of a call: none, a time, or one that is already reached.
 #[derive(Clone, Copy, Drop)]
 pub enum Deadline {
-    /// As long as it takes.
     Never,
-    /// Up to this time.
     At(Instant),
-    /// Already reached.
     Reached,
 }
 

@@ -27,7 +27,6 @@ impl NoMemory {
     }
 }
 
-/// `out of memory`, padded and cut as text is.
 impl fmt::Display for NoMemory {
     ghost output = { λ _. Some no_memory_text };
 
@@ -51,7 +50,6 @@ impl From<AllocError> for NoMemory {
 pub enum SelectError {
     /// The deadline was reached, and no arm was ready.
     Timeout,
-    /// Out of memory.
     NoMemory,
 }
 

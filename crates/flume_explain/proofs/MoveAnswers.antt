@@ -1,45 +1,70 @@
--- What is to be shown of each move: it answers as the step does that it is, and leaves what mirrors the state after that.
-use Rattle.std.proofs.Common.{◌≡◌, ◌≢◌, ℕ, false, List, Some}
-use Rattle.std.specs.List.{All}
+-- When a move answers as a step does, which calls are parked after it, and whether it may be refused.
+use Rattle.std.specs.Prelude.{◌≡◌, ◌≢◌, ◌⊎◌, ◌==◌, ℕ, Bool, true, false, if◌then◌else◌, List, ◌∷◌, map}
+use Rattle.std.specs.List.{All, Contains}
 use Rattle.flume_model.specs.declared.step.Step.{Step}
 use Rattle.flume_model.specs.declared.step.Reply.{Reply}
 use Rattle.flume_model.specs.Log.{Log, Opening}
-use Rattle.flume_model.specs.Channel.{channel}
-use Rattle.flume_model.specs.Replies.{IsReply}
 use Rattle.flume_state.specs.State.{State as Channel}
 use Rattle.flume_core.specs.Represents.{Represents}
-use Rattle.flume_concurrent.specs.declared.call.Call.{Call}
 use Rattle.flume_concurrent.specs.declared.event.Event.{Event}
+use Rattle.flume_explain.specs.declared.place_reply.PlaceReply.{PlaceReply}
+use Rattle.flume_explain.specs.declared.place_reply.PlaceReply.TheVariants as reply
+use Rattle.flume_explain.specs.declared.place_reply.PlaceReply.TheVariants.{Pending, Parked}
 use Rattle.flume_explain.specs.declared.step_of.Move.{Move}
 use Rattle.flume_explain.specs.declared.step_of.Move.TheVariants as move
-use Rattle.flume_explain.specs.Configurations.{State, call_at}
-use Rattle.flume_explain.specs.Outcomes.{outcome}
-use Rattle.flume_explain.specs.Mirrors.{Mirrors, Answers}
-use Rattle.flume_explain.specs.Moves.{step_for, is_refusal}
+use Rattle.flume_explain.specs.Configurations.{State}
+use Rattle.flume_explain.specs.Mirrors.{Mirrors, Corresponds}
 
--- nobody at this place is blocked or has an entry
-pub record IsNew (place : ℕ) (c : State) : Type 0 where
-  pub not_blocked : All (λ q. q ≢ place) c.blocked
-  pub not_parked : All (λ r. r.place ≢ place) c.receives
+-- the tickets by places, with this one for a place
+abbrev pub with_ticket : ℕ → ℕ → (ℕ → ℕ) → ℕ → ℕ
+with_ticket place ticket tickets p = if p == place then ticket else tickets p
 
--- nobody else that is blocked or has an entry has the ticket of this place
-pub record IsApart (tickets : ℕ → ℕ) (place : ℕ) (c : State) : Type 0 where
-  pub from_blocked : All (λ q. tickets q ≡ tickets place → q ≡ place) c.blocked
-  pub from_parked : All (λ r. tickets r.place ≡ tickets place → r.place ≡ place) c.receives
+-- whether a call with this reply parks
+abbrev pub parks : PlaceReply → Bool
+parks reply.Pending = true
+parks reply.Parked = true
+parks _ = false
 
--- as a move needs it: of a parked send, which has no entry, of a parked receive, which isn't blocked, or of another call
-abbrev pub IsReady : Move → (ℕ → ℕ) → ℕ → State → Type 0
-IsReady move.PollSend tickets place c = IsApart tickets place c × All (λ r. r.place ≢ place) c.receives
-IsReady move.WithdrawSend tickets place c = IsApart tickets place c × All (λ r. r.place ≢ place) c.receives
-IsReady move.Poll tickets place c = IsApart tickets place c × All (λ q. q ≢ place) c.blocked
-IsReady move.Withdraw tickets place c = IsApart tickets place c × All (λ q. q ≢ place) c.blocked
-IsReady _ tickets place c = IsNew place c
+-- whether a call with this reply is parked then
+abbrev pub stays_parked : PlaceReply → Bool
+stays_parked reply.Pending = true
+stays_parked reply.Parked = true
+stays_parked reply.Waiting = true
+stays_parked _ = false
 
+-- the tickets after a reply to the call at a place, if this is the next ticket
+abbrev pub tickets_after : PlaceReply → ℕ → ℕ → (ℕ → ℕ) → ℕ → ℕ
+tickets_after reply_by_place place next tickets =
+    if parks reply_by_place then with_ticket place next tickets else tickets
+
+-- a place after a move: it was there before, and the call's own stays parked; or the call joined
+abbrev pub IsPlaceAfter : PlaceReply → PlaceReply → ℕ → List ℕ → ℕ → Type 0
+IsPlaceAfter joins reply_by_place place before p =
+    (Contains before p × ((p ≢ place) ⊎ (stays_parked reply_by_place ≡ true)))
+    ⊎ ((p ≡ place) × (reply_by_place ≡ joins))
+
+-- the recorded events
 module _ {T A : Type 0} (events : List (Event T A)) where
-  -- whenever a channel may answer the step that the move is, without a want of memory, the move answers as it does
-  abbrev pub MoveAnswers : Move → Type 0
-  MoveAnswers move = (o : Opening) (log : Log T A) (s : Channel T (Unit {0})) (c : State) (tickets : ℕ → ℕ) (place : ℕ) (call : Call T)
-      (step : Step T) (given : Reply T A) → Represents o log s → Mirrors events tickets s c → call_at events place ≡ Some call
-      → step_for call (tickets place) move ≡ Some step → IsReady move tickets place c
-      → IsReply (channel o log) step given → is_refusal given ≡ false
-      → Answers events o log tickets s c place step (outcome move place c).0 (outcome move place c).1
+  -- after the log, the step may have the reply of this move, after which `new` mirrors the state
+  pub record Answers (o : Opening) (log : Log T A) (tickets : ℕ → ℕ) (s : Channel T (Unit {0}))
+      (c : State) (place : ℕ) (step : Step T) (reply_by_place : PlaceReply) (new : State)
+      : Type 0 where
+    pub reply : Reply T A
+    pub corresponds : Corresponds events s.next c.queue reply_by_place reply
+    pub state : Channel T (Unit {0})
+    pub represents : Represents o ((step, reply) ∷ log) state
+    pub mirrors : Mirrors events (tickets_after reply_by_place place s.next tickets) state new
+    pub blocked_after : All (IsPlaceAfter Pending reply_by_place place c.blocked) new.blocked
+    pub receives_after : All
+        (IsPlaceAfter Parked reply_by_place place (map (λ r. r.place) c.receives))
+        (map (λ r. r.place) new.receives)
+
+-- whether a move may be refused memory or a ticket
+abbrev pub may_refuse : Move → Bool
+may_refuse move.TrySend = true
+may_refuse move.Send = true
+may_refuse move.TryRecv = true
+may_refuse (move.Recv kind) = true
+may_refuse move.Poll = true
+may_refuse move.Drain = true
+may_refuse _ = false

@@ -1,6 +1,5 @@
 -- When a configuration agrees with the items so far.
-use Rattle.std.specs.Prelude.{◌≡◌, ◌<◌, ◌==◌, ℕ, Bool, true, false, ◌&&◌, List}
-use Rattle.std.specs.Prelude.{Option, Some, None}
+use Rattle.std.specs.Prelude.{◌≡◌, ◌<◌, ◌==◌, ℕ, Bool, true, false, ◌&&◌, List, Option, Some, None}
 use Rattle.std.specs.List.{All, list_any}
 use Rattle.std.specs.Option.{option_map_or}
 use Rattle.flume_model.specs.Log.{Opening}
@@ -32,8 +31,7 @@ module _ {T A : Type 0} (events : List (Event T A)) where
   abbrev pub is_send_at : ℕ → Bool
   is_send_at p = option_map_or is_send (call_at events p) false
 
-  -- the parked calls have tickets of their own, all below the next one; a blocked one is a send,
-  -- and one that has an entry is none
+  -- the parked calls have tickets of their own, below the next one; the blocked ones are the sends
   pub record AreParked (tickets : ℕ → ℕ) (next : ℕ) (c : State) : Type 0 where
     pub tickets_apart : (p q : ℕ) → parked_at c.calls p ≡ true → parked_at c.calls q ≡ true
         → tickets p ≡ tickets q → p ≡ q
@@ -50,7 +48,6 @@ module _ {T A : Type 0} where
   may_as_recorded equal call own (Some recorded) =
       may_return equal call (stage.Answered own) recorded
 
--- the recorded events; `equal` compares messages
 module _ {T A : Type 0} (equal : T → T → Bool) (events : List (Event T A)) where
   -- the progress is that of this stage, for a call with this ticket that is recorded to return this
   abbrev pub IsProgress : Call T → Option (Answer T A) → ℕ → Progress → Stage T A → Type 0
@@ -62,7 +59,7 @@ module _ {T A : Type 0} (equal : T → T → Bool) (events : List (Event T A)) w
       may_as_recorded equal call own recorded ≡ true
   IsProgress call recorded ticket _ _ = ⊥
 
-  -- this is the open call of a thread, at its progress
+  -- this is the thread's open call, at its progress
   abbrev pub IsOpenAs : (ℕ → ℕ) → Option (Answer T A) → Option OpenCall
       → Option (Call T × Stage T A) → Type 0
   IsOpenAs tickets recorded None None = Unit {0}
@@ -76,17 +73,14 @@ module _ {T A : Type 0} (equal : T → T → Bool) (events : List (Event T A)) w
   IsOwn calls one =
       (t : ℕ) × (thread_at events one.place ≡ Some t) × (call_by events t calls ≡ Some one)
 
-  -- the configuration agrees with the items so far, the newest first; `rest` are the next events
+  -- the configuration agrees with `past`, the newest item first; `tickets` go by places of calls
   pub record Agrees (opening : Opening) (past : List (Item T A)) (rest : List (Event T A))
       (c : State) : Type 0 where
-    -- the state after the steps
     pub state : Channel T (Unit {0})
     pub represents : Represents opening (steps_in past) state
-    -- the tickets of the parked calls, by their places
     pub tickets : ℕ → ℕ
     pub channel : Mirrors events tickets state c
     pub calls_are : (t : ℕ) → IsOpenAs tickets (first_answer t rest) (call_by events t c.calls)
         (open_call past t)
-    -- each thread has at most one open call
     pub threads_apart : All (IsOwn c.calls) c.calls
     pub parked : AreParked events tickets state.next c

@@ -1,5 +1,4 @@
--- What a step leaves of a configuration's channel, by the places of calls: the functions of
--- flume_state.specs.Effects and flume_model.specs.Entries, without tickets.
+-- flume_state.specs.Effects and flume_model.specs.Entries for configurations, without tickets.
 use Rattle.std.specs.Prelude.{ℕ, ◌+◌, ◌==◌, Bool, true, false, not, ◌&&◌, if◌then◌else◌}
 use Rattle.std.specs.Prelude.{List, [], ◌∷◌, ◌++◌, map, length, Option, Some, None}
 use Rattle.std.specs.List.{list_any}
@@ -31,20 +30,20 @@ admit_of (p ∷ later) c = record c { queue = c.queue ++ p ∷ []; blocked = lat
 abbrev pub admit : State → State
 admit c = admit_of c.blocked c
 
--- it does if the queue has room
+-- the same, if the queue has room
 abbrev pub refill : State → State
 refill c = if not (full_now c) then admit c else c
 
--- it does if this queue is empty
+-- the same, if this queue is empty
 abbrev pub front_of : List ℕ → State → State
 front_of [] c = admit c
 front_of (p ∷ rest) c = c
 
--- it does if no message is queued
+-- the same, if no message is queued
 abbrev pub with_front : State → State
 with_front c = front_of c.queue c
 
--- the front of the line was taken, which left this of the queue
+-- the front of the line was taken, and this is the rest of the queue
 abbrev pub take_leaving : List ℕ → State → State
 take_leaving rest c = refill (record (with_front c) { queue = rest })
 
@@ -74,15 +73,15 @@ fills_with [] rs = false
 fills_with (front ∷ queue) rs = round_fills_one rs
 
 -- the queue after a wake round that fills a receive, or not
-abbrev pub left_by_round : Bool → List ℕ → List ℕ
-left_by_round false queue = queue
-left_by_round true [] = []
-left_by_round true (front ∷ queue) = queue
+abbrev pub queue_after_round : Bool → List ℕ → List ℕ
+queue_after_round false queue = queue
+queue_after_round true [] = []
+queue_after_round true (front ∷ queue) = queue
 
 -- the configuration after a wake round
 abbrev pub wake : State → State
 wake c = record c {
-  queue = left_by_round (fills_with c.queue c.receives) c.queue;
+  queue = queue_after_round (fills_with c.queue c.receives) c.queue;
   receives = round_with c.queue c.receives;
 }
 
@@ -94,8 +93,7 @@ join place c = wake (record c { queue = c.queue ++ place ∷ [] })
 abbrev pub without_receive : ℕ → State → State
 without_receive place c = record c { receives = without_place place c.receives }
 
--- the receives, if this is the one at a place: if it was notified, it waits again, behind all
--- others
+-- the receives, if this is the one at a place: one that was notified waits again, behind all others
 abbrev pub again_as : ℕ → Option ParkedReceive → List ParkedReceive → List ParkedReceive
 again_as place None rs = rs
 again_as place (Some r) rs =
@@ -125,8 +123,7 @@ without_send place (p ∷ ps) = if p == place then ps else p ∷ without_send pl
 abbrev pub woken_if_waiting : ParkedReceive → ParkedReceive
 woken_if_waiting r = if waits r.status then with_status Woken r else r
 
--- an end was dropped: with the last end all is gone; if the channel closes, each waiting receive is
--- notified
+-- after the drop of an end: the last one clears all; if the channel closes, receives are notified
 abbrev pub end_dropped : Bool → State → State
 end_dropped was_closed c =
     if c.senders + c.receivers == 0 then record c { queue = []; blocked = []; receives = [] }

@@ -1,8 +1,7 @@
--- The channel and the open calls after some items, without tickets. A call goes by its place, that
--- of the event by which it began.
+-- The channel and the open calls after some items. A call's place is that of the event by which it
+-- began. In all files `events` are the recorded events, and `equal` compares messages.
 use Rattle.std.specs.Prelude.{ℕ, zero, suc, ◌==◌, Bool, true, false, if◌then◌else◌, List, [], ◌∷◌}
-use Rattle.std.specs.Prelude.{map}
-use Rattle.std.specs.Prelude.{Option, Some, None}
+use Rattle.std.specs.Prelude.{map, Option, Some, None}
 use Rattle.std.specs.Option.{option_and_then, option_map}
 use Rattle.flume_concurrent.specs.declared.call.Call.{Call}
 use Rattle.flume_concurrent.specs.declared.call.Call.TheVariants.{Send, SendTimeout, SendAsync}
@@ -24,7 +23,6 @@ pub record State : Type 0 where
   pub queue : List ℕ
   pub blocked : List ℕ
   pub receives : List ParkedReceive
-  -- the open calls, in the order in which they began
   pub calls : List OpenCall
 
 -- the open call, with this progress if it is the one at this place

@@ -1,5 +1,5 @@
--- Configurations from which no explanation goes on, whichever items led there.
-use Rattle.std.specs.Prelude.{◌≡◌, ◌≤◌, ◌⊎◌, ℕ, ◌+◌, Bool, List, [], ◌∷◌, drop, length, Some}
+-- Configurations from which nothing completes an explanation, whichever items led there.
+use Rattle.std.specs.Prelude.{◌≡◌, ◌≤◌, ℕ, ◌+◌, Bool, List, [], ◌∷◌, drop, length, Some}
 use Rattle.std.specs.List.{Contains}
 use Rattle.flume_model.specs.Log.{Opening}
 use Rattle.flume_concurrent.specs.declared.event.Event.{Event}
@@ -20,25 +20,25 @@ module _ {T A : Type 0} where
   onto [] past = past
   onto (item ∷ items) past = onto items (item ∷ past)
 
--- the recorded events; `equal` compares messages
 module _ {T A : Type 0} (equal : T → T → Bool) (events : List (Event T A)) where
-  -- after `past`, these items, the oldest first, complete an explanation with the events from a
-  -- place on, whose steps come late
-  pub record GoOn (opening : Opening) (past : List (Item T A)) (place : ℕ) (items : List (Item T A))
-      : Type 0 where
+  -- after `past` these items, with late steps, complete an explanation of the events from a place
+  pub record Completes (opening : Opening) (past : List (Item T A)) (place : ℕ)
+      (items : List (Item T A)) : Type 0 where
     pub events_are : events_in items ≡ drop place events
-    pub late : AreLate items
+    pub late_steps : AreLate items
     pub explains : IsExplanation equal opening (onto items past)
 
-  -- no items go on from any that the configuration agrees with
+  -- no items complete an explanation after those that the configuration agrees with
   abbrev pub IsDead : ℕ → State → Type 0
   IsDead place c = (opening : Opening) (past items : List (Item T A))
-      → Agrees equal events opening past (drop place events) c → GoOn opening past place items → ⊥
+      → Agrees equal events opening past (drop place events) c → Completes opening past place items
+      → ⊥
 
-  -- no items go on that are at most this many
+  -- no items do that are at most this many
   abbrev pub IsDeadWithin : ℕ → ℕ → State → Type 0
   IsDeadWithin n place c = (opening : Opening) (past items : List (Item T A)) → length items ≤ n
-      → Agrees equal events opening past (drop place events) c → GoOn opening past place items → ⊥
+      → Agrees equal events opening past (drop place events) c → Completes opening past place items
+      → ⊥
 
   -- the item is one of this choice: an event, or a step of this open call
   abbrev pub IsItemOf : State → List (Item T A) → Choice → Item T A → Type 0
@@ -46,19 +46,18 @@ module _ {T A : Type 0} (equal : T → T → Bool) (events : List (Event T A)) w
   IsItemOf c past (MakeStep call other refused) item = (t : ℕ) × Contains c.calls call
       × (thread_at events call.place ≡ Some t) × IsMove past t other refused item
 
-  -- what may come next is one of these choices, unless the same configuration goes on by fewer
-  -- items
-  abbrev pub AreLeft : ℕ → State → List Choice → Type 0
-  AreLeft place c choices = (opening : Opening) (past : List (Item T A)) (item : Item T A)
+  -- what may come next is among these choices, unless fewer items complete an explanation
+  abbrev pub CoverNext : ℕ → State → List Choice → Type 0
+  CoverNext place c choices = (opening : Opening) (past : List (Item T A)) (item : Item T A)
       (items : List (Item T A)) → Agrees equal events opening past (drop place events) c
-      → IsDeadWithin (length items) place c → GoOn opening past place (item ∷ items)
+      → IsDeadWithin (length items) place c → Completes opening past place (item ∷ items)
       → (choice : Choice) × Contains choices choice × IsItemOf c past choice item
 
-  -- nothing of this choice may come next, unless the same configuration goes on by fewer items
+  -- nothing of this choice may come next, unless fewer items complete an explanation
   abbrev pub IsSpent : ℕ → State → Choice → Type 0
   IsSpent place c choice = (opening : Opening) (past : List (Item T A)) (item : Item T A)
       (items : List (Item T A)) → Agrees equal events opening past (drop place events) c
-      → IsDeadWithin (length items) place c → GoOn opening past place (item ∷ items)
+      → IsDeadWithin (length items) place c → Completes opening past place (item ∷ items)
       → IsItemOf c past choice item → ⊥
 
   -- the next event leads to items that agree with the new configuration
@@ -78,8 +77,3 @@ module _ {T A : Type 0} (equal : T → T → Bool) (events : List (Event T A)) w
 abbrev pub AreSteps : List Choice → List OpenCall → Type 0
 AreSteps choices calls = (call : OpenCall) (other refused : Bool) → Contains calls call
     → Contains choices (MakeStep call other refused)
-
--- the choices have each step of each of these open calls but this one
-abbrev pub AreStepsBut : OpenCall → List Choice → List OpenCall → Type 0
-AreStepsBut own choices calls = (call : OpenCall) (other refused : Bool) → Contains calls call
-    → Contains choices (MakeStep call other refused) ⊎ (call ≡ own)

@@ -23,8 +23,7 @@ abbrev pub without_call : ℕ → State → State
 without_call place c = record c { calls = filter (λ call. not (call.place == place)) c.calls }
 
 module _ {T A : Type 0} where
-  -- whether an open call may return this, if this is the first answer that is recorded of it: one
-  -- that has its answer returns this one
+  -- whether an open call may return this, its first recorded answer; one that is done may
   abbrev pub may_end : (T → T → Bool) → Option (Call T) → Progress → Answer T A → Bool
   may_end equal None current recorded_answer = false
   may_end equal (Some call) progress.Begun recorded_answer =

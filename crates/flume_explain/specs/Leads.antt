@@ -20,7 +20,6 @@ use Rattle.flume_explain.specs.Configurations.{State, first_answer, call_by, cal
 use Rattle.flume_explain.specs.Agreement.{Agrees, IsProgress}
 use Rattle.flume_explain.specs.Moves.{move_of, step_for, is_refusal, IsMove}
 
--- the recorded events; `equal` compares messages
 module _ {T A : Type 0} (equal : T → T → Bool) (events : List (Event T A)) where
   -- the open call has come to another answer than the recorded one
   abbrev pub IsWrong : Option (Call T × Stage T A) → Option (Answer T A) → Type 0
@@ -43,8 +42,7 @@ module _ {T A : Type 0} (equal : T → T → Bool) (events : List (Event T A)) w
       → IsRun opening (steps_in (item ∷ past))
       → IsWrong (open_call (item ∷ past) t) (first_answer t rest)
 
-  -- the open call of a thread makes this move, which is this step with this reply, memory being
-  -- refused or not
+  -- the thread's open call makes this move, by this step with this reply, memory refused or not
   pub record IsMade (c : State) (rest : List (Event T A)) (t : ℕ) (one : OpenCall) (own : Call T)
       (move : Move) (refused : Bool) (opening : Opening) (past : List (Item T A))
       (step : Step T) (reply : Reply T A) : Type 0 where

@@ -102,7 +102,7 @@ module _ {T : Type 0} where
   step_for call ticket move.IsDisconnected = Some step.IsDisconnected
 
 module _ {T A : Type 0} where
-  -- whether memory was refused, or no ticket was left
+  -- whether memory or a ticket was refused
   abbrev pub is_refusal : Reply T A → Bool
   is_refusal (NoMemory back) = true
   is_refusal (Spent back) = true

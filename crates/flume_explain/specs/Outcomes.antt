@@ -1,5 +1,5 @@
 -- The reply to each move of a call, and the configuration after it, if no memory is refused.
-use Rattle.std.specs.Prelude.{ℕ, ◌==◌, ◌+◌, ◌-◌, Bool, true, false, not, ◌&&◌, ◌||◌, if◌then◌else◌}
+use Rattle.std.specs.Prelude.{ℕ, ◌==◌, ◌+◌, ◌-◌, Bool, not, ◌&&◌, if◌then◌else◌}
 use Rattle.std.specs.Prelude.{List, [], ◌∷◌, ◌++◌, length, Option, Some, None}
 use Rattle.std.specs.List.{list_any}
 use Rattle.flume_model.specs.declared.step.Kind.{Kind}
@@ -56,8 +56,7 @@ receive_outcome_from (p ∷ rest) none c = (reply.Got p, take_leaving rest c)
 
 -- a message is received; if there is none, this comes, or `Ended` with this configuration
 abbrev pub receive_outcome : ReplyAndState → State → State → ReplyAndState
-receive_outcome none ended c =
-    receive_outcome_from (with_front c).queue
+receive_outcome none ended c = receive_outcome_from (with_front c).queue
     (if closed_now c then (reply.Ended, ended) else none) c
 
 -- the configuration with the receive at this place parked
@@ -95,8 +94,7 @@ poll_outcome place c = poll_outcome_by place (receive_of place c.receives) c
 abbrev pub withdraw_outcome_as : ℕ → Kind → Status → State → ReplyAndState
 withdraw_outcome_as place kind (status.Filled p) c = (reply.Got p, without_receive place c)
 withdraw_outcome_as place Block status c =
-    leaves_with place
-    (receive_outcome_from (with_front c).queue
+    leaves_with place (receive_outcome_from (with_front c).queue
     (reply.Gone (closed_now c), without_receive place c) c)
 withdraw_outcome_as place kind status c = (reply.Gone (closed_now c), leave place c)
 
@@ -128,8 +126,7 @@ resize_outcome (Some old) n c = if closed_now c then (reply.Ended, c) else (repl
 -- the reply to a move of the call at a place, and the configuration after it
 abbrev pub outcome : Move → ℕ → State → ReplyAndState
 outcome move.TrySend p c = offer_outcome (reply.Full, c) p c
-outcome move.Send p c =
-    offer_outcome (reply.Pending, record c { blocked = c.blocked ++ p ∷ [] }) p c
+outcome move.Send p c = offer_outcome (reply.Pending, record c { blocked = c.blocked ++ p ∷ [] }) p c
 outcome move.PollSend p c = poll_send_outcome p c
 outcome move.WithdrawSend p c = withdraw_send_outcome p c
 outcome move.TryRecv p c = receive_outcome (reply.Empty, c) c c

@@ -1,5 +1,5 @@
--- The progress of a call is its stage without the ticket; and which moves may be refused.
-use Rattle.std.specs.Prelude.{Bool, true, false, not, Option, Some}
+-- The progress of a call is its stage without the ticket.
+use Rattle.std.specs.Prelude.{Bool, false, not, Option, Some}
 use Rattle.flume_concurrent.specs.declared.call.Call.{Call}
 use Rattle.flume_concurrent.specs.declared.call.Answer.{Answer}
 use Rattle.flume_concurrent.specs.declared.stage.Stage.{Stage}
@@ -7,8 +7,6 @@ use Rattle.flume_concurrent.specs.declared.stage.Stage.TheVariants as stage
 use Rattle.flume_concurrent.specs.Answers.{may_return}
 use Rattle.flume_explain.specs.declared.configuration.Progress.{Progress}
 use Rattle.flume_explain.specs.declared.configuration.Progress.TheVariants as progress
-use Rattle.flume_explain.specs.declared.step_of.Move.{Move}
-use Rattle.flume_explain.specs.declared.step_of.Move.TheVariants as move
 
 module _ {T A : Type 0} where
   -- the progress of a call at a stage
@@ -27,16 +25,6 @@ module _ {T A : Type 0} where
 
   -- whether a call has come to another answer than the recorded one; `equal` compares messages
   abbrev pub is_wrong : (T → T → Bool) → Call T → Option (Answer T A) → Stage T A → Bool
-  is_wrong equal call (Some reply_by_place) (stage.Answered own) =
-      not (may_return equal call (stage.Answered own) reply_by_place)
+  is_wrong equal call (Some recorded) (stage.Answered own) =
+      not (may_return equal call (stage.Answered own) recorded)
   is_wrong equal call _ _ = false
-
--- whether a move may be refused memory or a ticket
-abbrev pub may_refuse : Move → Bool
-may_refuse move.TrySend = true
-may_refuse move.Send = true
-may_refuse move.TryRecv = true
-may_refuse (move.Recv kind) = true
-may_refuse move.Poll = true
-may_refuse move.Drain = true
-may_refuse _ = false

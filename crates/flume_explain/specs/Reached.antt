@@ -17,10 +17,8 @@ use Rattle.flume_explain.specs.Configurations.{State, event_at, thread_at, call_
 use Rattle.flume_explain.specs.Agreement.{Agrees}
 use Rattle.flume_explain.specs.Moves.{move_of}
 
--- the recorded events; `equal` compares messages
 module _ {T A : Type 0} (equal : T → T → Bool) (events : List (Event T A)) where
-  -- the configuration agrees with an explanation of the events before a place, by a channel whose
-  -- tickets begin at 1 or at 0
+  -- the configuration agrees with an explanation of the events before a place, from ticket 0 or 1
   pub record IsReached (opening : Opening) (place : ℕ) (c : State) : Type 0 where
     pub past : List (Item T A)
     pub events_are : events_in (reverse past) ≡ take place events
@@ -57,8 +55,7 @@ module _ {T A : Type 0} (equal : T → T → Bool) (events : List (Event T A)) w
     pub within : count ≤ length events
     pub explained : IsExplained equal opening (take count events)
 
-  -- each configuration on the way is reached at its place; the events before `furthest` are
-  -- explained
+  -- the configurations on the way are reached, and the events before `furthest` are explained
   pub record HasReached (opening : Opening) (search : Search A) : Type 0 where
     pub frames : All (λ f. IsReached opening f.place f.configuration) search.frames.items
     pub furthest : AreExplained opening search.furthest

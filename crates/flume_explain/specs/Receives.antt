@@ -1,7 +1,6 @@
 -- How a wake round, an ask and a withdrawal change the parked receives, by the places of calls.
-use Rattle.std.specs.Prelude.{ℕ, ◌==◌, Bool, true, false, if◌then◌else◌, List, [], ◌∷◌, ◌++◌}
-use Rattle.std.specs.Prelude.{Option}
-use Rattle.std.specs.Prelude.{Some, None}
+use Rattle.std.specs.Prelude.{ℕ, ◌==◌, Bool, true, false, if◌then◌else◌, List, [], ◌∷◌}
+use Rattle.std.specs.Prelude.{Option, Some, None}
 use Rattle.flume_model.specs.declared.step.Kind.{Kind}
 use Rattle.flume_model.specs.declared.step.Kind.TheVariants.{Block, Stream}
 use Rattle.flume_explain.specs.declared.configuration.ParkedReceive.{ParkedReceive}
@@ -22,21 +21,20 @@ is_awake _ = false
 abbrev pub with_status : Status → ParkedReceive → ParkedReceive
 with_status status r = record r { status = status }
 
--- the first waiting receive in a wake round and those behind it: `rest` as it is if the round ends
--- here, and as the round leaves it if it goes on
-abbrev pub met_by : Kind → ℕ → ParkedReceive → List ParkedReceive → List ParkedReceive
+-- the first waiting receive in a wake round and those behind it, if the round ends here or goes on
+abbrev pub round_at : Kind → ℕ → ParkedReceive → List ParkedReceive → List ParkedReceive
     → List ParkedReceive
-met_by Stream front r as_are goes_on = with_status Woken r ∷ goes_on
-met_by Block front r as_are goes_on = with_status (Filled front) r ∷ as_are
-met_by kind front r as_are goes_on = with_status Woken r ∷ as_are
+round_at Stream front r as_are goes_on = with_status Woken r ∷ goes_on
+round_at Block front r as_are goes_on = with_status (Filled front) r ∷ as_are
+round_at kind front r as_are goes_on = with_status Woken r ∷ as_are
 
 -- the receives after a wake round, if the send at this place is the front of the queue
 abbrev pub round_of : ℕ → List ParkedReceive → List ParkedReceive
 round_of front [] = []
 round_of front (r ∷ rs) =
-    if waits r.status then met_by r.kind front r rs (round_of front rs) else r ∷ round_of front rs
+    if waits r.status then round_at r.kind front r rs (round_of front rs) else r ∷ round_of front rs
 
--- whether a round fills one that comes to such a waiting receive, if behind that it would or not
+-- whether a round fills a receive that comes to one of this kind, given whether it would behind it
 abbrev pub fills_at : Kind → Bool → Bool
 fills_at Stream on = on
 fills_at Block on = true

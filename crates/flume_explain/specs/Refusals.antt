@@ -31,8 +31,7 @@ abbrev pub is_looking : Option ParkedReceive → Bool
 is_looking None = false
 is_looking (Some r) = looks r.kind r.status
 
--- whether the move of the call at a place may be refused: a send may if it is accepted or parks, a
--- receive if it parks, and any if a blocked send is to join the queue for it
+-- whether a move may be refused: one that queues a message, admits a blocked send, parks or drains
 abbrev pub may_be_refused : Move → ℕ → State → Bool
 may_be_refused move.TrySend place c =
     not (closed_now c) && not (not (some_waits c.receives) && full_now c)

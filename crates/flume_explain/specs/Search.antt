@@ -9,35 +9,33 @@ use Rattle.flume_explain.specs.declared.frame.Frame.{Frame}
 use Rattle.flume_explain.specs.declared.replay.Replay.{Replay}
 use Rattle.flume_explain.specs.declared.search.Search.{Search}
 use Rattle.flume_explain.specs.Configurations.{State}
-use Rattle.flume_explain.specs.Dead.{AreLeft, IsDead}
+use Rattle.flume_explain.specs.Dead.{CoverNext, IsDead}
 
 -- a configuration at a place, as one that is remembered
 abbrev pub dead_at : {A : Type 0} → ℕ → State → Dead A
 dead_at place c = record { configuration = c; place = place }
 
--- the recorded events; `equal` compares messages
 module _ {T A : Type 0} (equal : T → T → Bool) (events : List (Event T A)) where
-  -- what is left of a frame is all that may come next
-  abbrev pub IsLeft : Frame A → Type 0
-  IsLeft frame = AreLeft equal events frame.place frame.configuration frame.choices.items
+  -- the choices of a frame are all that may come next
+  abbrev pub FrameCovers : Frame A → Type 0
+  FrameCovers frame = CoverNext equal events frame.place frame.configuration frame.choices.items
 
-  -- if the first frame is dead, so is the start; if the next one is dead, what is left of a frame
-  -- is all that may come next; of the last frame, if `last` holds
+  -- `start` holds if the first frame is dead, a frame covers what may come next if the one after it
+  -- is dead, and the last frame does if `last` holds
   abbrev pub AreOnTheWay : (start : Type 0) → List (Frame A) → (last : Type 0) → Type 0
   AreOnTheWay start [] last = last → start
   AreOnTheWay start (frame ∷ frames) last = (frame.place < length events)
       × (IsDead equal events frame.place frame.configuration → start)
-      × AreOnTheWay (IsLeft frame) frames last
+      × AreOnTheWay (FrameCovers frame) frames last
 
-  -- the configuration is dead if nothing is left of the frames and `last` holds; what is remembered
-  -- is dead
+  -- the start is dead if no frame has a choice and `last` holds; what is remembered is dead
   pub record Searches (start : State) (last : Type 0) (search : Search A) : Type 0 where
     pub way : AreOnTheWay (IsDead equal events 0 start) search.frames.items last
     pub dead : All (λ d. IsDead equal events d.place d.configuration) search.dead.dead.items
 
-  -- the search is one for what goes on from some configuration
-  abbrev pub IsGoing : Search A → Type 0
-  IsGoing search = (start : State) × Searches start (Unit {0}) search
+  -- the search is one from some configuration
+  abbrev pub IsSearch : Search A → Type 0
+  IsSearch search = (start : State) × Searches start (Unit {0}) search
 
 module _ {T A : Type 0} where
   -- the items so far have the events that were taken

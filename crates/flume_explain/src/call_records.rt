@@ -1,36 +1,35 @@
 //! When each call returns, and who receives its message, by the events.
 use crate::configuration::{Configuration, OpenCall, ParkedReceive, Progress, Status};
+use crate::places::call_at;
+use crate::replies::{message_at, message_of};
 use flume_concurrent::call::{Answer, Call};
 use flume_concurrent::event::Event;
 use std::alloc::Allocator;
 
-/// There is no such event.
+/// The place of no event.
 pub const NEVER: usize = usize::MAX;
 
-/// What the events say of a call, by places of events.
+/// Places of events of a call, or `NEVER`.
 #[derive(Clone, Copy, Debug, Drop)]
 pub struct CallRecord {
-    /// The event by which it returns, or `NEVER`.
+    /// Where it returns.
     pub returned: usize,
-    /// The event that begins the receive of the message that it sends or receives, or `NEVER`.
+    /// Where the receive of the message that it sends or receives begins.
     pub receive: usize,
-    /// The event by which this message is received, or `NEVER`.
+    /// Where this receive returns.
     pub received: usize,
 }
 
-/// What the events say of each call, by the place of the event by which it begins.
+/// The record of each call, by the place at which it begins.
 #[derive(Drop)]
 pub struct CallRecords<A: Allocator> {
     records: Vec<CallRecord, A>,
-    // The sends whose messages weren't received yet.
     sends: Vec<usize, A>,
-    // A thread and a place of each open call.
     open: Vec<(usize, usize), A>,
 }
 
 impl<A: Allocator + Copy> CallRecords<A> {
-    /// What these events say; `None` if an allocation failed. Of two sends of equal messages, the
-    /// first is taken to be the one whose message is received first.
+    /// `None` if an allocation failed. Of equal messages, the first sent counts as received first.
     pub fn new<T: Copy + Eq + Drop>(alloc: A, events: &[Event<T, A>]) -> Option<Self> {
         let mut records = CallRecords {
             records: Vec::new(alloc),
@@ -45,12 +44,11 @@ impl<A: Allocator + Copy> CallRecords<A> {
         Some(records)
     }
 
-    /// What is known of the call that begins at a place.
+    /// The record of the call that begins at a place.
     pub fn of(&self, place: usize) -> CallRecord {
         self.records.get(place).copied().unwrap_or(UNKNOWN)
     }
 
-    // `false`: an allocation failed.
     fn add<T: Copy + Eq + Drop>(&mut self, events: &[Event<T, A>], place: usize) -> bool {
         if self.records.push(UNKNOWN).is_err() {
             return false;
@@ -70,7 +68,6 @@ impl<A: Allocator + Copy> CallRecords<A> {
         }
     }
 
-    // The place at which the thread's call began, which returns now.
     fn end(&mut self, thread: usize) -> Option<usize> {
         for index in 0..self.open.len() {
             if let Some((own, begin)) = self.open.get(index).copied() {
@@ -116,7 +113,7 @@ impl<A: Allocator + Copy> CallRecords<A> {
     ) {
         for index in 0..self.sends.len() {
             if let Some(send) = self.sends.get(index).copied() {
-                if sends_this(events, send, message) {
+                if message_at(events, send) == Some(message) {
                     let _ = self.sends.remove(index);
                     self.set_received(send, begin, place);
                     return;
@@ -132,9 +129,8 @@ impl<A: Allocator + Copy> CallRecords<A> {
         }
     }
 
-    /// Whether a configuration before the event at a place likely leads to no explanation: a
-    /// receive was filled with a message that it doesn't return, a send has come to another answer
-    /// than its own, or messages are in another order than that in which they are received.
+    /// Whether a configuration before a place likely leads to no explanation: a receive has another
+    /// message than it returns, a send another answer, or the messages are in another order.
     pub fn are_against<T: Copy + Eq + Drop>(
         &self,
         events: &[Event<T, A>],
@@ -151,8 +147,7 @@ impl<A: Allocator + Copy> CallRecords<A> {
             || self.has_wrong_send(events, configuration.calls.as_slice())
     }
 
-    // The latest begin of a receive of these messages, if each of them may be received after this
-    // place and behind those before it.
+    // Where their last receive begins, if these messages may be received in order after `place`.
     fn latest(&self, line: &[usize], place: usize) -> Option<usize> {
         let mut latest = place;
         for send in line {
@@ -190,21 +185,22 @@ impl<A: Allocator + Copy> CallRecords<A> {
         send: usize,
     ) -> bool {
         match self.answer(events, receive) {
-            Some(Answer::Got(message)) => sends_this(events, send, *message),
+            Some(Answer::Got(message)) => message_at(events, send) == Some(*message),
             Some(Answer::Dropped) => self.of(send).received == NEVER,
             Some(_) => false,
             None => true,
         }
     }
 
-    // A future whose send found no room can't park: it returns `NoMemory`, or is dropped.
+    // A future that found no room and didn't park returns `NoMemory`, or is dropped.
     fn has_wrong_send<T: Copy + Eq + Drop>(
         &self,
         events: &[Event<T, A>],
         calls: &[OpenCall],
     ) -> bool {
         for call in calls {
-            if call.progress == Progress::Tried && is_send_async(events, call.place) {
+            let sends = matches!(call_at(events, call.place), Some(Call::SendAsync(_)));
+            if sends && call.progress == Progress::Tried {
                 match self.answer(events, call.place) {
                     Some(Answer::NoMemory) | Some(Answer::Dropped) | None => {}
                     Some(_) => return true,
@@ -219,8 +215,7 @@ impl<A: Allocator + Copy> CallRecords<A> {
         matches!(self.answer(events, place), Some(Answer::NoMemory))
     }
 
-    /// Whether a receive that is dropped took the message that was first in line, though another
-    /// one returns it.
+    /// Whether a receive that is dropped took the first message in line, which another one returns.
     pub fn is_taken_away<T: Copy + Eq + Drop>(
         &self,
         events: &[Event<T, A>],
@@ -230,7 +225,7 @@ impl<A: Allocator + Copy> CallRecords<A> {
         let Some(front) = before.front() else {
             return false;
         };
-        is_recv_async(events, receive)
+        matches!(call_at(events, receive), Some(Call::RecvAsync))
             && matches!(self.answer(events, receive), Some(Answer::Dropped))
             && self.of(front).received != NEVER
             && !after.has_message_of(front)
@@ -262,7 +257,6 @@ impl<A: Allocator + Copy> Configuration<A> {
         }
     }
 
-    // Whether the message of this send is queued, blocked, or fills a parked receive.
     fn has_message_of(&self, send: usize) -> bool {
         self.queue.contains(&send) || self.blocked.contains(&send) || self.is_handed_out(send)
     }
@@ -274,44 +268,5 @@ impl<A: Allocator + Copy> Configuration<A> {
             }
         }
         false
-    }
-}
-
-/// The message that a call sends.
-pub fn message_of<T: Copy>(call: &Call<T>) -> Option<T> {
-    match *call {
-        Call::Send(message)
-        | Call::SendTimeout(message)
-        | Call::SendAsync(message)
-        | Call::TrySend(message) => Some(message),
-        _ => None,
-    }
-}
-
-fn sends_this<T: Copy + Eq + Drop, A: Allocator>(
-    events: &[Event<T, A>],
-    begin: usize,
-    message: T,
-) -> bool {
-    match events.get(begin) {
-        Some(Event::Begins { call, .. }) => match message_of(call) {
-            Some(own) => own == message,
-            None => false,
-        },
-        _ => false,
-    }
-}
-
-fn is_send_async<T: Drop, A: Allocator>(events: &[Event<T, A>], place: usize) -> bool {
-    match events.get(place) {
-        Some(Event::Begins { call, .. }) => matches!(call, Call::SendAsync(_)),
-        _ => false,
-    }
-}
-
-fn is_recv_async<T: Drop, A: Allocator>(events: &[Event<T, A>], place: usize) -> bool {
-    match events.get(place) {
-        Some(Event::Begins { call, .. }) => matches!(call, Call::RecvAsync),
-        _ => false,
     }
 }

@@ -1,8 +1,8 @@
 //! What may come next in an explanation.
-ghost use Rattle.std.specs.Prelude.{◌≡◌, ◌<◌, ◌++◌, ◌⊎◌, ◌∷◌, [], ℕ, true, false, length, Bool};
-ghost use Rattle.std.specs.Prelude.{List, IfSome, IfNone, IsTrue, slice_get};
+ghost use Rattle.std.specs.Prelude.{◌≡◌, ◌<◌, ◌++◌, ◌⊎◌, ◌∷◌, [], true, false, length, Bool};
+ghost use Rattle.std.specs.Prelude.{IfSome, IfNone, IsTrue};
 ghost use Rattle.std.specs.List.{Contains};
-ghost use Rattle.flume_explain.specs.Dead.{AreLeft, AreSteps};
+ghost use Rattle.flume_explain.specs.Dead.{CoverNext, AreSteps};
 ghost use Rattle.flume_explain.specs.declared.configuration.OpenCall.{OpenCall};
 
 use crate::configuration::{Configuration, OpenCall, Progress};
@@ -14,7 +14,7 @@ use std::alloc::Allocator;
 #[derive(Clone, Copy, Debug, Drop)]
 pub enum Choice {
     TakeEvent,
-    /// A step of this open call: its next one or the other one, with memory or refused it.
+    /// The next step of an open call or the other one, with memory or refused it.
     MakeStep {
         call: OpenCall,
         other: bool,
@@ -23,15 +23,14 @@ pub enum Choice {
 }
 
 impl<A: Allocator + Copy> Configuration<A> {
-    /// The open call that the event at a place returns, if it hasn't its answer. `None`: only the
-    /// event may come next.
+    /// The call that the event at a place returns, if it isn't done; else only the event may come.
     pub fn returning_call<T: Copy + Eq + Drop>(
         &self,
         events: &[Event<T, A>],
         place: usize,
     ) -> Option<OpenCall>
         requires { place < length events.now }
-        ensures only { IfNone result (AreLeft T.eq events.now place self.now
+        ensures event_only { IfNone result (CoverNext T.eq events.now place self.now
             (Choice.TakeEvent ∷ [])) }
     {
         match &events[place] {
@@ -43,8 +42,7 @@ impl<A: Allocator + Copy> Configuration<A> {
         }
     }
 
-    /// What may come next, the last to be tried first: the steps of the other open calls, of this
-    /// one, and the event. `None`: an allocation failed.
+    /// What may come next, the event last, to be tried first. `None`: an allocation failed.
     pub fn choices(&self, alloc: A, own: OpenCall) -> Option<Vec<Choice, A>>
         ensures event { IfSome result (λ choices. Contains choices.items Choice.TakeEvent) }
         ensures steps { IfSome result (λ choices. AreSteps choices.items self.now.calls) }
@@ -83,13 +81,12 @@ fn all_choices<A: Allocator + Copy>(
     }
 }
 
-// `false`: an allocation failed.
 fn push_steps_unless<A: Allocator + Copy>(
     choices: &mut Vec<Choice, A>,
     call: OpenCall,
     own: OpenCall,
 ) -> bool
-    ensures kept { IsTrue result → (choice : Choice) → Contains choices.old.items choice
+    ensures old_choices { IsTrue result → (choice : Choice) → Contains choices.old.items choice
         → Contains choices.new.items choice }
     ensures steps { IsTrue result → (other refused : Bool)
         → Contains choices.new.items (Choice.MakeStep call other refused) ⊎ (call ≡ own) }
@@ -97,7 +94,6 @@ fn push_steps_unless<A: Allocator + Copy>(
     call == own || push_steps(choices, call)
 }
 
-// `false`: an allocation failed.
 fn push_steps<A: Allocator + Copy>(choices: &mut Vec<Choice, A>, call: OpenCall) -> bool
     ensures steps { IsTrue result → choices.new.items ≡ choices.old.items
         ++ (Choice.MakeStep call true true ∷ Choice.MakeStep call false true

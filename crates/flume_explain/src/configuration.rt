@@ -1,6 +1,5 @@
-//! The channel and the open calls after some items, without tickets. A call goes by its place, that
-//! of the event by which it began, and so does the message that it sends.
-
+//! The channel and the open calls after some items. A call, and the message that it sends, goes by
+//! its place: that of the event by which it began.
 ghost use Rattle.std.specs.Prelude.{◌≡◌, IfOk, IfSome};
 ghost use Rattle.flume_explain.specs.Configurations.{call_with_progress, calls_with_progress};
 ghost use Rattle.flume_explain.specs.Configurations.{with_progress, start_of};
@@ -13,12 +12,12 @@ use std::marker::Model;
 #[derive(Clone, Copy, Debug, PartialEq, Eq, Drop)]
 pub enum Progress {
     Begun,
-    /// It found no room or no message, and may park.
+    /// It found no room or no message.
     Tried,
     Parked,
-    /// It is parked and was refused memory: it withdraws.
+    /// It was refused memory while it was parked: it withdraws.
     Refused,
-    /// It has made its last step, and may return its recorded answer.
+    /// It may return its recorded answer.
     Done,
 }
 
@@ -33,7 +32,7 @@ pub struct OpenCall {
 #[derive(Clone, Copy, Debug, PartialEq, Eq, Drop)]
 pub enum Status {
     Waiting,
-    /// It was notified, and is to ask again.
+    /// It is to ask again.
     Woken,
     /// It has the message of the send at this place.
     Filled(usize),
@@ -47,7 +46,7 @@ pub struct ParkedReceive {
     pub status: Status,
 }
 
-/// The channel and the open calls after some items of an explanation, by the places of calls.
+/// The channel and the open calls after some items of an explanation.
 #[derive(Drop)]
 pub struct Configuration<A: Allocator = Global> {
     /// `None` if unbounded.
@@ -58,9 +57,8 @@ pub struct Configuration<A: Allocator = Global> {
     pub queue: Vec<usize, A>,
     /// The blocked sends, in order.
     pub blocked: Vec<usize, A>,
-    /// The parked receives, the waiting ones in the order in which they began to wait.
+    /// The waiting ones in the order in which they began to wait.
     pub receives: Vec<ParkedReceive, A>,
-    /// The open calls, in the order in which they began.
     pub calls: Vec<OpenCall, A>,
 }
 
@@ -138,8 +136,7 @@ impl<A: Allocator + Copy> Configuration<A> {
         })
     }
 
-    /// A copy in which the open call at this place has this progress; `None` if an allocation
-    /// failed.
+    /// A copy with this progress of the call at a place; `None` if an allocation failed.
     pub fn with_progress(&self, alloc: A, place: usize, progress: Progress) -> Option<Self>
         ensures calls_with_progress { IfSome result (λ new.
             new ≡ with_progress place progress self.now) }
@@ -154,7 +151,6 @@ impl<A: Allocator + Copy> Configuration<A> {
     }
 }
 
-// `None` if an allocation failed.
 pub(crate) fn calls_with_progress<A: Allocator + Copy>(
     calls: &[OpenCall],
     alloc: A,

@@ -3,8 +3,7 @@ ghost use Rattle.std.specs.Prelude.{◌≡◌, ◌++◌, ◌∷◌, [], IsTrue};
 ghost use Rattle.std.specs.List.{Contains};
 ghost use Rattle.flume_explain.specs.Search.{dead_at};
 
-use crate::configuration::{Configuration, OpenCall, ParkedReceive, Progress, Status};
-use flume_model::step::Kind;
+use crate::configuration::{Configuration, OpenCall, ParkedReceive, Status};
 use std::alloc::Allocator;
 use std::collections::HashMap;
 use std::hash::{BuildHasherDefault, FoldHasher};
@@ -13,21 +12,18 @@ use std::hash::{BuildHasherDefault, FoldHasher};
 #[derive(Drop)]
 pub struct Dead<A: Allocator> {
     pub configuration: Configuration<A>,
-    /// The place of the next event.
     pub place: usize,
 }
 
-/// A table by hashes. Of two configurations with one hash only the later one is found.
+/// A table by hashes, in which only the last configuration with some hash is found.
 #[derive(Drop)]
 pub struct DeadTable<A: Allocator> {
-    /// In the order in which they were remembered.
     pub dead: Vec<Dead<A>, A>,
-    // An index of `dead`, by the hash.
     by_hash: HashMap<u64, usize, BuildHasherDefault<FoldHasher>, A>,
 }
 
 impl<A: Allocator + Copy> DeadTable<A> {
-    /// An empty table. Doesn't allocate.
+    /// An empty table.
     pub fn new(alloc: A) -> Self
         ensures none { result.dead.items ≡ [] }
     {
@@ -37,7 +33,7 @@ impl<A: Allocator + Copy> DeadTable<A> {
         }
     }
 
-    /// Whether this configuration is remembered at this place, and found.
+    /// Whether this configuration is found at this place.
     pub fn has(&self, configuration: &Configuration<A>, place: usize) -> bool
         ensures has { IsTrue result
             → Contains self.now.dead.items (dead_at place configuration.now) }
@@ -63,7 +59,7 @@ impl<A: Allocator + Copy> DeadTable<A> {
 
     /// `false`: an allocation failed.
     pub fn remember(&mut self, configuration: Configuration<A>, place: usize) -> bool
-        ensures kept { IsTrue result → self.new.dead.items
+        ensures added { IsTrue result → self.new.dead.items
             ≡ self.old.dead.items ++ dead_at place configuration ∷ [] }
     {
         let hash = configuration.hash_at(place);
@@ -146,25 +142,17 @@ fn with_places(hash: u64, places: &[usize]) -> u64 {
 
 fn with_calls(hash: u64, calls: &[OpenCall]) -> u64 {
     calls.iter().fold(hash, |hash, call| {
-        mixed(mixed(hash, call.place), number_of_progress(call.progress))
+        mixed(mixed(hash, call.place), call.progress as usize)
     })
 }
 
 fn with_receives(hash: u64, receives: &[ParkedReceive]) -> u64 {
     receives.iter().fold(hash, |hash, receive| {
-        let hash = mixed(mixed(hash, receive.place), number_of_kind(receive.kind));
+        let hash = mixed(mixed(hash, receive.place), receive.kind as usize);
         match receive.status {
             Status::Waiting => mixed(hash, 0),
             Status::Woken => mixed(hash, 1),
             Status::Filled(place) => mixed(mixed(hash, 2), place),
         }
     })
-}
-
-fn number_of_progress(progress: Progress) -> usize {
-    progress as usize
-}
-
-fn number_of_kind(kind: Kind) -> usize {
-    kind as usize
 }

@@ -60,10 +60,8 @@ impl<A: Allocator + Copy> Configuration<A> {
         PlaceReply::Done
     }
 
-    // An end was dropped and its count is lower: with the last one all is gone, and if the channel
-    // closes, each waiting receive is notified.
     fn drop_end(&mut self, was_closed: bool)
-        ensures left { self.new ≡ end_dropped was_closed self.old }
+        ensures end_dropped { self.new ≡ end_dropped was_closed self.old }
     {
         if self.senders == 0 && self.receivers == 0 {
             self.queue.clear();

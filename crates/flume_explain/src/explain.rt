@@ -18,7 +18,6 @@ use flume_concurrent::explanation::{Explained, check_explanation};
 use flume_core::error::NoMemory;
 use std::alloc::Allocator;
 
-// If no explanation is found in this many configurations, patterns are looked for first.
 const PATTERNS_AFTER: usize = 100_000;
 
 /// The result of a search for an explanation.
@@ -27,10 +26,9 @@ pub enum Explanation<T, A: Allocator> {
     /// These items explain the events.
     Explained(Vec<Item<T, A>, A>),
     Unexplained,
-    /// Out of memory: nothing is known of the events.
     NoMemory,
-    /// The limit was reached. This many events are explained; of all of them nothing is known. If
-    /// these are all, they are explained, but the items weren't found.
+    /// The limit was reached: this many events are explained, and nothing is known of more. If that
+    /// is all of them, the items weren't found.
     GaveUp(usize),
 }
 
@@ -40,18 +38,15 @@ pub enum Checked {
     Explained,
     /// This many events are explained, and with the next one they aren't.
     Breaks(usize),
-    /// This many events are explained, and all of them aren't. The first that isn't wasn't found
-    /// within the limit.
+    /// This many events are explained, and all of them aren't; the limit was reached in between.
     Unexplained(usize),
-    /// Out of memory: nothing is known of the events.
     NoMemory,
-    /// The limit was reached. This many events are explained; of all of them nothing is known.
+    /// The limit was reached: this many events are explained, and nothing is known of more.
     GaveUp(usize),
 }
 
 /// Looks for an explanation of the events, the oldest first, on a channel of this capacity (`None`:
-/// unbounded). Enters at most `limit` configurations after the first one, and as many in a guess
-/// before, which leaves much out.
+/// unbounded). A guess and then a search enter at most `limit` configurations each after the first.
 pub fn explain<T: Copy + Eq + Drop, A: Allocator + Copy>(
     alloc: A,
     capacity: Option<usize>,
@@ -78,10 +73,9 @@ pub fn explain<T: Copy + Eq + Drop, A: Allocator + Copy>(
 }
 
 /// Finds how many events are explained, the oldest first, on a channel of this capacity (`None`:
-/// unbounded). The search for all of them enters at most `limit` configurations after the first
-/// one; if there is no explanation, each search for fewer events enters at most a tenth. If the
-/// first 100,000 lead to none, patterns that have no explanation are looked for; without any, the
-/// search begins anew. A guess comes before each search, within the same limit.
+/// unbounded). For all of them a guess and then a search enter at most `limit` configurations each
+/// after the first, and for fewer events a tenth. If 100,000 lead to no explanation, patterns that
+/// have none are looked for; without any, guess and search begin anew.
 pub fn check_calls<T: Copy + Eq + Drop, A: Allocator + Copy>(
     alloc: A,
     capacity: Option<usize>,
@@ -150,7 +144,6 @@ fn check_long<T: Copy + Eq + Drop, A: Allocator + Copy>(
     }
 }
 
-// The events up to this place aren't explained.
 fn check_refuted<T: Copy + Eq + Drop, A: Allocator + Copy>(
     alloc: A,
     capacity: Option<usize>,
@@ -170,7 +163,6 @@ fn check_refuted<T: Copy + Eq + Drop, A: Allocator + Copy>(
     find_break(alloc, capacity, &events[..=place], limit / 10, place)
 }
 
-// The events have an explanation.
 fn explained_by<T: Copy + Eq + Drop, A: Allocator + Copy>(
     alloc: A,
     capacity: Option<usize>,
@@ -200,7 +192,7 @@ fn explained_by<T: Copy + Eq + Drop, A: Allocator + Copy>(
     }
 }
 
-// All events together aren't explained. Doubles the step, and then halves what is left.
+// The step doubles, up to half of what is undecided.
 fn find_break<T: Copy + Eq + Drop, A: Allocator + Copy>(
     alloc: A,
     capacity: Option<usize>,
@@ -239,8 +231,8 @@ fn find_break<T: Copy + Eq + Drop, A: Allocator + Copy>(
     Checked::Breaks(low)
 }
 
-fn half_at_most(step: usize, left: usize) -> usize
-    ensures half { result ≤ left }
+fn half_at_most(step: usize, width: usize) -> usize
+    ensures half { result ≤ width }
 {
-    step.min(left / 2)
+    step.min(width / 2)
 }

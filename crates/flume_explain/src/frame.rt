@@ -1,7 +1,7 @@
-//! A configuration on the way that a search takes, and what is left to try from it.
-ghost use Rattle.std.specs.Prelude.{◌≡◌, ◌<◌, ℕ, [], length};
+//! The configurations on the way of a search.
+ghost use Rattle.std.specs.Prelude.{◌≡◌, ◌<◌, ℕ, length};
 ghost use Rattle.flume_explain.specs.Configurations.{State};
-ghost use Rattle.flume_explain.specs.Dead.{AreLeft, IsDead};
+ghost use Rattle.flume_explain.specs.Dead.{CoverNext, IsDead};
 ghost use Rattle.flume_explain.specs.Reached.{Reaches};
 ghost use Rattle.flume_explain.specs.declared.choice.Choice.{Choice};
 
@@ -11,39 +11,37 @@ use crate::tries::ChoiceOutcome;
 use flume_concurrent::event::Event;
 use std::alloc::Allocator;
 
-/// A configuration on the way of a search, and what is left to try from it.
+/// A configuration that a search has entered, and the choices that weren't tried there.
 #[derive(Drop)]
 pub struct Frame<A: Allocator> {
     pub configuration: Configuration<A>,
-    /// The place of the next event.
     pub place: usize,
-    /// Not tried yet, the last to be tried first.
+    /// The last is to be tried first.
     pub choices: Vec<Choice, A>,
     /// How many choices led here.
     pub depth: usize,
 }
 
-/// Where a search goes on.
+/// The next configuration of a search.
 #[derive(Drop)]
 pub enum Next<A: Allocator> {
-    /// By this choice, at this configuration and this place.
+    /// By this choice, at this place.
     Leads(Choice, Configuration<A>, usize),
-    /// Nothing is left to try.
     Nowhere,
     NoMemory,
 }
 
 impl<A: Allocator + Copy> Frame<A> {
-    /// Tries what is left, until a choice leads on.
+    /// Tries choices until one leads to a configuration.
     pub fn next<T: Copy + Eq + Drop>(&mut self, alloc: A, events: &[Event<T, A>]) -> Next<A>
         requires within { self.old.place < length events.now }
-        requires left { AreLeft T.eq events.now self.old.place self.old.configuration
+        requires cover { CoverNext T.eq events.now self.old.place self.old.configuration
             self.old.choices.items }
         ensures same_place { self.new.place ≡ self.old.place }
         ensures same { self.new.configuration ≡ self.old.configuration }
         ensures leads { (choice : Choice) (new : State) (at : ℕ)
             → result ≡ Next.Leads choice new at → IsDead T.eq events.now at new
-            → AreLeft T.eq events.now self.new.place self.new.configuration
+            → CoverNext T.eq events.now self.new.place self.new.configuration
             self.new.choices.items }
         ensures reaches { (choice : Choice) (new : State) (at : ℕ)
             → result ≡ Next.Leads choice new at

@@ -1,27 +1,23 @@
-//! A search that leaves out what likely leads to no explanation. It is fast if it finds one; if it
-//! finds none, that says nothing.
+//! A fast search that leaves out what likely leads to no explanation. None found says nothing.
+use crate::call_records::CallRecords;
 use crate::choice::Choice;
 use crate::configuration::{Configuration, OpenCall, Progress};
 use crate::dead::DeadTable;
 use crate::frame::{Frame, Next};
 use crate::happens::Forced;
-use crate::order::Order;
 use crate::tries::ChoiceOutcome;
 use flume_concurrent::event::Event;
 use std::alloc::Allocator;
 
 #[derive(Drop)]
 struct Guess<A: Allocator> {
-    // From the first to the last configuration on the way.
     frames: Vec<Frame<A>, A>,
     chosen: Vec<Choice, A>,
-    // From these nothing was found.
-    left: DeadTable<A>,
-    order: Order<A>,
+    dead: DeadTable<A>,
+    records: CallRecords<A>,
 }
 
-/// Choices that lead from this configuration past all the events, if any are found within this many
-/// configurations.
+/// Choices that lead past all the events, if they are found within this many configurations.
 pub fn guess_path<T: Copy + Eq + Drop, A: Allocator + Copy>(
     alloc: A,
     start: Configuration<A>,
@@ -31,8 +27,8 @@ pub fn guess_path<T: Copy + Eq + Drop, A: Allocator + Copy>(
     let mut guess = Guess {
         frames: Vec::new(alloc),
         chosen: Vec::new(alloc),
-        left: DeadTable::new(alloc),
-        order: Order::new(alloc, events)?,
+        dead: DeadTable::new(alloc),
+        records: CallRecords::new(alloc, events)?,
     };
     let (mut next, mut place) = (start, 0);
     for _ in 0..limit {
@@ -45,8 +41,7 @@ pub fn guess_path<T: Copy + Eq + Drop, A: Allocator + Copy>(
 }
 
 impl<A: Allocator + Copy> Guess<A> {
-    // Takes the events that have no alternative, and leaves a frame, unless the configuration
-    // likely leads nowhere. Whether that led past the last event; `None`: an allocation failed.
+    // Whether events without an alternative lead past the last one. `None`: an allocation failed.
     fn enter<T: Copy + Eq + Drop>(
         &mut self,
         alloc: A,
@@ -57,7 +52,7 @@ impl<A: Allocator + Copy> Guess<A> {
         match configuration.take_forced(events, place, &mut self.chosen) {
             Forced::AtEnd => Some(true),
             Forced::Stops(at, own) => {
-                if !self.is_left(events, &configuration, at) {
+                if !self.is_unlikely(events, &configuration, at) {
                     self.push_frame(alloc, events, configuration, at, own)?;
                 }
                 Some(false)
@@ -67,20 +62,16 @@ impl<A: Allocator + Copy> Guess<A> {
         }
     }
 
-    fn is_left<T: Copy + Eq + Drop>(
+    fn is_unlikely<T: Copy + Eq + Drop>(
         &self,
         events: &[Event<T, A>],
         configuration: &Configuration<A>,
         place: usize,
     ) -> bool {
-        self.left.has(configuration, place)
-            || self
-                .order
-                .records()
-                .are_against(events, configuration, place)
+        self.dead.has(configuration, place)
+            || self.records.are_against(events, configuration, place)
     }
 
-    // `None`: an allocation failed.
     fn push_frame<T: Copy + Eq + Drop>(
         &mut self,
         alloc: A,
@@ -91,7 +82,7 @@ impl<A: Allocator + Copy> Guess<A> {
     ) -> Option<()> {
         let mut choices = configuration.choices(alloc, own)?;
         if !self
-            .order
+            .records
             .push_first(events, &configuration, own, &mut choices)
         {
             return None;
@@ -106,7 +97,7 @@ impl<A: Allocator + Copy> Guess<A> {
         self.frames.push(frame).ok()
     }
 
-    // Tries the newest frame first. `None`: nothing is left, or an allocation failed.
+    // `None`: no choice leads on, or an allocation failed.
     fn next<T: Copy + Eq + Drop>(
         &mut self,
         alloc: A,
@@ -121,7 +112,7 @@ impl<A: Allocator + Copy> Guess<A> {
                     return Some((new, at));
                 }
                 Next::Nowhere => {
-                    if !self.left.remember(frame.configuration, frame.place) {
+                    if !self.dead.remember(frame.configuration, frame.place) {
                         return None;
                     }
                 }
@@ -156,19 +147,17 @@ impl<A: Allocator + Copy> Guess<A> {
         Next::Nowhere
     }
 
-    // A call that has its answer makes no step, and one whose answer isn't `NoMemory` is likely
-    // refused none.
+    // A call that doesn't return `NoMemory` was likely refused none.
     fn is_likely<T: Copy + Eq + Drop>(&self, events: &[Event<T, A>], choice: Choice) -> bool {
         match choice {
             Choice::TakeEvent => true,
             Choice::MakeStep { call, refused, .. } => {
                 call.progress != Progress::Done
-                    && (!refused || self.order.records().is_refused(events, call.place))
+                    && (!refused || self.records.is_refused(events, call.place))
             }
         }
     }
 
-    // Whether a step took a message away that another call returns.
     fn is_against<T: Copy + Eq + Drop>(
         &self,
         events: &[Event<T, A>],
@@ -179,8 +168,7 @@ impl<A: Allocator + Copy> Guess<A> {
         match choice {
             Choice::TakeEvent => false,
             Choice::MakeStep { call, .. } => {
-                self.order
-                    .records()
+                self.records
                     .is_taken_away(events, call.place, (before, after))
             }
         }

@@ -16,14 +16,13 @@ use flume_concurrent::event::Event;
 use flume_concurrent::stage::Stage;
 use std::alloc::Allocator;
 
-/// Where the events that have no alternative lead.
+/// The place to which the events that have no alternative lead.
 #[derive(Clone, Copy, Debug, Drop)]
 pub enum Forced {
-    /// Past the last event.
     AtEnd,
-    /// To this place: the event returns this open call, which hasn't its answer.
+    /// The event there returns this open call, which isn't done.
     Stops(usize, OpenCall),
-    /// To this place, where the event can't come.
+    /// The event there can't come.
     Dead(usize),
     NoMemory,
 }
@@ -64,7 +63,6 @@ impl<A: Allocator + Copy> Configuration<A> {
         }
     }
 
-    // `false`: an allocation failed.
     fn begin_call(&mut self, place: usize) -> bool
         ensures begun { IsTrue result → self.new ≡ with_call place self.old }
     {
@@ -82,7 +80,7 @@ impl<A: Allocator + Copy> Configuration<A> {
         self.calls.retain(|call| call.place != place);
     }
 
-    /// Takes the events from a place on that have no alternative, and adds them to `chosen`.
+    /// Takes the events that have no alternative, and adds them to `chosen`.
     pub fn take_forced<T: Copy + Eq + Drop>(
         &mut self,
         events: &[Event<T, A>],
@@ -119,7 +117,6 @@ impl<A: Allocator + Copy> Configuration<A> {
     }
 }
 
-// If this is the first answer that is recorded of the call.
 fn may_return<T: Copy + Eq + Drop, A: Allocator + Copy>(
     one: OpenCall,
     events: &[Event<T, A>],

@@ -49,7 +49,6 @@ impl<A: Allocator + Copy> Configuration<A> {
         }
     }
 
-    // The front of the line is the first queued message, or else the first blocked one.
     pub(crate) fn take(&mut self) -> Result<Option<usize>, AllocError>
         ensures taken { IfOk result (λ front. (front, self.new) ≡ taken_front self.old) }
     {

@@ -25,7 +25,6 @@ use std::alloc::Allocator;
 #[derive(Drop)]
 pub enum Outcome<A: Allocator> {
     Leads(Configuration<A>),
-    /// The configuration stays.
     Same,
     /// No explanation has this move.
     Nowhere,
@@ -33,8 +32,7 @@ pub enum Outcome<A: Allocator> {
 }
 
 impl<A: Allocator + Copy> Configuration<A> {
-    /// The result of a move of this open call: its next step or the other one, with memory or
-    /// refused it. `recorded` is what the call is recorded to return, if it is.
+    /// The result of a move of this open call, which is recorded to return `recorded`, if anything.
     pub fn after<T: Copy + Eq + Drop>(
         &self,
         alloc: A,
@@ -75,7 +73,6 @@ impl<A: Allocator + Copy> Configuration<A> {
         }
     }
 
-    // The channel stays.
     fn after_refusal<T: Copy + Eq + Drop>(
         &self,
         alloc: A,
@@ -136,10 +133,10 @@ impl<A: Allocator + Copy> Configuration<A> {
             → CallLeadsNowhere T.eq events.now self.now (option_copied recorded.entry) one call.now
             mv false }
     {
-        let Some(mut left) = self.try_clone(alloc) else {
+        let Some(mut changed) = self.try_clone(alloc) else {
             return Outcome::NoMemory;
         };
-        let Some(reply_by_place) = left.make(mv, one.place) else {
+        let Some(reply_by_place) = changed.make(mv, one.place) else {
             return Outcome::NoMemory;
         };
         let Some(reply) = self.reply_to(alloc, reply_by_place, events, call) else {
@@ -150,17 +147,15 @@ impl<A: Allocator + Copy> Configuration<A> {
             return Outcome::Nowhere;
         }
         let progress = progress_of(&stage);
-        if progress == one.progress && left.is_same(self) {
+        if progress == one.progress && changed.is_same(self) {
             return Outcome::Same;
         }
         match self.calls_with(alloc, one.place, progress) {
-            Some(calls) => Outcome::Leads(left.with_calls(calls)),
+            Some(calls) => Outcome::Leads(changed.with_calls(calls)),
             None => Outcome::NoMemory,
         }
     }
 
-    // A channel's reply to this step that is this one by places. `None`: an allocation failed, or
-    // the reply has a message that no call sends.
     fn reply_to<T: Copy + Eq + Drop>(
         &self,
         alloc: A,
@@ -180,7 +175,6 @@ impl<A: Allocator + Copy> Configuration<A> {
         )
     }
 
-    // `None`: an allocation failed.
     fn calls_with(&self, alloc: A, place: usize, progress: Progress) -> Option<Vec<OpenCall, A>>
         ensures calls_with_progress { IfSome result (λ calls.
             calls.items ≡ calls_with_progress place progress self.now.calls) }

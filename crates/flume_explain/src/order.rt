@@ -1,38 +1,21 @@
-//! Which choices are tried first. Any order is correct; this one finds an explanation sooner.
-ghost use Rattle.std.specs.Prelude.{◌≡◌, IsTrue};
+//! Which choices are tried first: any order is correct.
+ghost use Rattle.std.specs.Prelude.{IsTrue};
 ghost use Rattle.std.specs.List.{Contains};
 ghost use Rattle.flume_explain.specs.declared.choice.Choice.{Choice};
 
-use crate::call_records::{CallRecords, NEVER, message_of};
+use crate::call_records::{CallRecords, NEVER};
 use crate::choice::Choice;
 use crate::configuration::{Configuration, OpenCall, Progress};
+use crate::replies::message_at;
 use flume_concurrent::event::Event;
 use std::alloc::Allocator;
 
-/// What is tried first, by what the events say of each call.
-#[derive(Drop)]
-pub struct Order<A: Allocator> {
-    records: CallRecords<A>,
-}
-
-impl<A: Allocator + Copy> Order<A> {
-    /// The order for these events; `None` if an allocation failed.
-    pub fn new<T: Copy + Eq + Drop>(alloc: A, events: &[Event<T, A>]) -> Option<Self> {
-        let records = CallRecords::new(alloc, events)?;
-        Some(Order { records })
+impl<A: Allocator + Copy> CallRecords<A> {
+    fn received(&self, call: OpenCall) -> usize {
+        self.of(call.place).received
     }
 
-    /// What the events say of each call.
-    pub fn records(&self) -> &CallRecords<A> {
-        &self.records
-    }
-
-    // When the message of an open call is returned.
-    fn of(&self, call: OpenCall) -> usize {
-        self.records.of(call.place).received
-    }
-
-    // The other open call whose message is returned first, if it can still be made.
+    // The other open send whose message is received first.
     fn first_send<T: Copy + Eq + Drop>(
         &self,
         events: &[Event<T, A>],
@@ -41,12 +24,9 @@ impl<A: Allocator + Copy> Order<A> {
     ) -> Option<OpenCall> {
         let mut first: Option<OpenCall> = None;
         for call in calls {
-            let sends = match events.get(call.place) {
-                Some(Event::Begins { call, .. }) => message_of(call).is_some(),
-                _ => false,
-            };
+            let sends = message_at(events, call.place).is_some();
             let sooner = match first {
-                Some(first) => self.of(*call) < self.of(first),
+                Some(first) => self.received(*call) < self.received(first),
                 None => true,
             };
             if sends && sooner && *call != own && call.progress != Progress::Done {
@@ -56,21 +36,20 @@ impl<A: Allocator + Copy> Order<A> {
         first
     }
 
-    // The other open call with the same message.
     fn partner(&self, calls: &[OpenCall], own: OpenCall) -> Option<OpenCall> {
-        let shared = self.of(own);
+        let shared = self.received(own);
         if shared == NEVER {
             return None;
         }
         for call in calls {
-            if *call != own && self.of(*call) == shared {
+            if *call != own && self.received(*call) == shared {
                 return Some(*call);
             }
         }
         None
     }
 
-    /// Adds the steps that are to be tried first, once more. `false`: an allocation failed.
+    /// Adds the steps to be tried first once more. `false`: an allocation failed.
     pub fn push_first<T: Copy + Eq + Drop>(
         &self,
         events: &[Event<T, A>],
@@ -78,7 +57,7 @@ impl<A: Allocator + Copy> Order<A> {
         own: OpenCall,
         choices: &mut Vec<Choice, A>,
     ) -> bool
-        ensures kept { IsTrue result → (choice : Choice) → Contains choices.old.items choice
+        ensures old_choices { IsTrue result → (choice : Choice) → Contains choices.old.items choice
             → Contains choices.new.items choice }
     {
         let calls = configuration.calls.as_slice();
@@ -87,39 +66,37 @@ impl<A: Allocator + Copy> Order<A> {
         push_both(choices, first, self.partner(calls, own)) && push_both(choices, Some(own), sooner)
     }
 
-    // This send, if its message is returned before that of the other call, and it has room at once.
+    // `first`, if its message is received before that of `own`, and it has room at once.
     fn sooner(
         &self,
         first: Option<OpenCall>,
         configuration: &Configuration<A>,
         own: OpenCall,
     ) -> Option<OpenCall> {
-        let own = self.of(own);
+        let own = self.received(own);
         if own == NEVER || configuration.has_no_room() {
             return None;
         }
         match first {
-            Some(call) if self.of(call) < own => first,
+            Some(call) if self.received(call) < own => first,
             _ => None,
         }
     }
 }
 
-// `false`: an allocation failed.
 fn push_both<A: Allocator + Copy>(
     choices: &mut Vec<Choice, A>,
     one: Option<OpenCall>,
     other: Option<OpenCall>,
 ) -> bool
-    ensures kept { IsTrue result → (choice : Choice) → Contains choices.old.items choice
+    ensures old_choices { IsTrue result → (choice : Choice) → Contains choices.old.items choice
         → Contains choices.new.items choice }
 {
     push_step(choices, one) && push_step(choices, other)
 }
 
-// `false`: an allocation failed.
 fn push_step<A: Allocator + Copy>(choices: &mut Vec<Choice, A>, call: Option<OpenCall>) -> bool
-    ensures kept { IsTrue result → (choice : Choice) → Contains choices.old.items choice
+    ensures old_choices { IsTrue result → (choice : Choice) → Contains choices.old.items choice
         → Contains choices.new.items choice }
 {
     match call {

@@ -15,14 +15,12 @@ use flume_concurrent::event::Event;
 use flume_concurrent::explanation::{Explained, check_explanation};
 use std::alloc::Allocator;
 
-// How many configurations a guess may enter for each event, and how many more.
 const GUESSES_PER_EVENT: usize = 10;
 
 const GUESSED_AT_LEAST: usize = 10_000;
 
-/// Choices that lead past all the events, on a channel of this capacity (`None`: unbounded). First
-/// comes a guess, which enters at most `limit` configurations; then a search that leaves nothing
-/// out, which enters at most `limit` after the first one.
+/// Choices that lead past all the events, on a channel of this capacity (`None`: unbounded). A
+/// guess, and then a search, enter at most `limit` configurations each after the first.
 pub fn find_choices<T: Copy + Eq + Drop, A: Allocator + Copy>(
     alloc: A,
     capacity: Option<usize>,

@@ -3,8 +3,7 @@ ghost use Rattle.std.specs.Prelude.{◌≡◌, ◌≤◌, ◌∷◌, ◌↔◌, 
 ghost use Rattle.std.specs.Prelude.{IfNone, IfSome, IsTrue, None};
 ghost use Rattle.flume_concurrent.specs.Patterns.{all_returned as all_return};
 ghost use Rattle.flume_concurrent.specs.Patterns.{begins_send as some_begins};
-ghost use Rattle.flume_concurrent.specs.Patterns.{returns_in as some_returns};
-ghost use Rattle.flume_concurrent.specs.Patterns.{sends as sends_such};
+ghost use Rattle.flume_concurrent.specs.Patterns.{returns_in as some_returns, sends as sends_such};
 ghost use Rattle.flume_concurrent.specs.Patterns.{IsOutOfOrder, IsUnsent};
 ghost use Rattle.flume_concurrent.specs.declared.call.Answer.{Answer};
 ghost use Rattle.flume_concurrent.specs.declared.call.Call.{Call};
@@ -14,21 +13,21 @@ use flume_concurrent::call::{Answer, Call};
 use flume_concurrent::event::Event;
 use std::alloc::Allocator;
 
-/// A thread received a message.
+/// A message, and the thread that received it.
 #[derive(Clone, Copy, Debug, Drop)]
 pub struct Received<T> {
     pub thread: usize,
     pub message: T,
 }
 
-/// Places at which two messages may have been received out of order.
+/// Places of events by which two messages may have been received out of order.
 #[derive(Clone, Copy, Debug, Drop)]
 pub struct Overtaking {
-    /// The event that begins a send of the second message.
+    /// Where a send of the second message begins.
     pub sent: usize,
-    /// The event by which the second message is received.
+    /// Where the second message is received.
     pub received: usize,
-    /// The event that begins the receive of the first message.
+    /// Where the receive of the first message begins.
     pub begun: usize,
 }
 
@@ -97,8 +96,6 @@ pub fn begins<T: Drop, A: Allocator>(event: &Event<T, A>, own: usize) -> bool
     }
 }
 
-// Whether each send of the first message returns before this place, and no send of the second
-// begins before it.
 fn is_sent_first<T: Copy + Eq + Drop, A: Allocator>(
     events: &[Event<T, A>],
     place: usize,
@@ -110,8 +107,8 @@ fn is_sent_first<T: Copy + Eq + Drop, A: Allocator>(
     ensures no_first { IsTrue result → some_begins (T.eq first) (drop place events.now) ≡ false }
     ensures no_second { IsTrue result → some_begins (T.eq second) (take place events.now) ≡ false }
 {
-    let (early, late) = events.split_at(place);
-    all_returned(early, first) && is_never_sent(late, first) && is_never_sent(early, second)
+    let (before, after) = events.split_at(place);
+    all_returned(before, first) && is_never_sent(after, first) && is_never_sent(before, second)
 }
 
 fn is_never_sent<T: Copy + Eq + Drop, A: Allocator>(events: &[Event<T, A>], message: T) -> bool
@@ -145,7 +142,6 @@ fn begins_send<T: Copy + Eq + Drop, A: Allocator>(event: &Event<T, A>, message: 
     }
 }
 
-// Whether each send of this message that begins in these events returns in them.
 fn all_returned<T: Copy + Eq + Drop, A: Allocator>(events: &[Event<T, A>], message: T) -> bool
     ensures value { result ≡ all_return (T.eq message) events.now }
 {

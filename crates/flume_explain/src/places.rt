@@ -1,5 +1,5 @@
 //! The calls that began at places, and their threads.
-ghost use Rattle.std.specs.Prelude.{◌≡◌, Option, List};
+ghost use Rattle.std.specs.Prelude.{◌≡◌, Option};
 ghost use Rattle.std.specs.Option.{option_copied};
 ghost use Rattle.flume_explain.specs.Configurations.{call_at, call_by, is_thread, thread_at};
 
@@ -8,7 +8,7 @@ use flume_concurrent::call::Call;
 use flume_concurrent::event::Event;
 use std::alloc::Allocator;
 
-/// Which of these open calls is this thread's.
+/// The one of these open calls that is this thread's.
 pub fn call_of<T: Copy + Eq + Drop, A: Allocator + Copy>(
     calls: &[OpenCall],
     events: &[Event<T, A>],
@@ -29,7 +29,7 @@ fn is_of<T: Copy + Eq + Drop, A: Allocator + Copy>(
     events: &[Event<T, A>],
     thread: usize,
 ) -> bool
-    ensures of { result ≡ is_thread thread (thread_at events.now call.place) }
+    ensures is_thread { result ≡ is_thread thread (thread_at events.now call.place) }
 {
     match thread_at(events, call.place) {
         Some(own) => own == thread,

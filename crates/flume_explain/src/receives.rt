@@ -74,7 +74,7 @@ impl<A: Allocator + Copy> Configuration<A> {
         kind: Kind,
         status: Status,
     ) -> Result<PlaceReply, AllocError>
-        ensures asked { IfOk result (λ reply.
+        ensures outcome { IfOk result (λ reply.
             (reply, self.new) ≡ poll_outcome_as place kind status self.old) }
     {
         match (kind, status) {
@@ -88,7 +88,7 @@ impl<A: Allocator + Copy> Configuration<A> {
     }
 
     fn look(&mut self, place: usize) -> Result<PlaceReply, AllocError>
-        ensures poll_line_outcome { IfOk result (λ reply.
+        ensures outcome { IfOk result (λ reply.
             (reply, self.new) ≡ leaves_with place (poll_line_outcome place self.old)) }
     {
         if let Some(message) = self.take()? {
@@ -103,9 +103,8 @@ impl<A: Allocator + Copy> Configuration<A> {
         Ok(PlaceReply::Waiting)
     }
 
-    // If it was notified, it waits behind all others.
     fn ask_again(&mut self, place: usize) -> Result<(), AllocError>
-        ensures asked { OnOk result (self.new ≡ ask_again place self.old) }
+        ensures asks_again { OnOk result (self.new ≡ ask_again place self.old) }
     {
         match receive_of(self.receives.as_slice(), place) {
             Some(receive) if receive.is_awake() => {
@@ -136,7 +135,7 @@ impl<A: Allocator + Copy> Configuration<A> {
         kind: Kind,
         status: Status,
     ) -> Result<PlaceReply, AllocError>
-        ensures left { IfOk result (λ reply.
+        ensures outcome { IfOk result (λ reply.
             (reply, self.new) ≡ withdraw_outcome_as place kind status self.old) }
     {
         match (kind, status) {
@@ -153,9 +152,8 @@ impl<A: Allocator + Copy> Configuration<A> {
         }
     }
 
-    // A blocking receive takes the front of the line, if there is one.
     fn withdraw_block(&mut self, place: usize) -> Result<PlaceReply, AllocError>
-        ensures left { IfOk result (λ reply.
+        ensures outcome { IfOk result (λ reply.
             (reply, self.new) ≡ leaves_with place
             (receive_outcome_from (with_front self.old).queue
             (PlaceReply.Gone (closed_now self.old), without_receive place self.old) self.old)) }
@@ -169,9 +167,8 @@ impl<A: Allocator + Copy> Configuration<A> {
         }
     }
 
-    // The notification is passed on.
     fn leave(&mut self, place: usize)
-        ensures left { self.new ≡ leave place self.old }
+        ensures leaves { self.new ≡ leave place self.old }
     {
         let found = receive_of(self.receives.as_slice(), place);
         self.remove_receive(place);

@@ -1,5 +1,5 @@
-//! Whether events are refuted by a pattern, without a search.
-ghost use Rattle.std.specs.Prelude.{◌≡◌, ◌<◌, ◌+◌, take, length, IfOk, IfSome, IsTrue};
+//! Refutes events by a pattern, without a search.
+ghost use Rattle.std.specs.Prelude.{◌<◌, ◌+◌, take, length, IfOk, IfSome, IsTrue};
 ghost use Rattle.flume_model.specs.Log.{Opening};
 ghost use Rattle.flume_concurrent.specs.Explanations.{IsExplained};
 
@@ -9,17 +9,13 @@ use flume_concurrent::laws::{messages_are_received_in_order, only_what_was_sent_
 use flume_core::error::NoMemory;
 use std::alloc::{AllocError, Allocator};
 
-// The receive so far whose message was sent last.
 #[derive(Clone, Copy, Debug, Drop)]
 struct Latest {
-    // The event that begins the send.
     sent: usize,
-    // The event by which the message is received.
     received: usize,
 }
 
-/// The first place at which a pattern shows that the events up to it, itself included, aren't
-/// explained. `NoMemory`: an allocation failed.
+/// The first place up to which a pattern refutes the events. `NoMemory`: an allocation failed.
 pub fn refuted_at<T: Copy + Eq + Drop, A: Allocator + Copy>(
     alloc: A,
     events: &[Event<T, A>],
@@ -28,7 +24,7 @@ pub fn refuted_at<T: Copy + Eq + Drop, A: Allocator + Copy>(
     ensures refuted { (opening : Opening) → IfOk result (λ found. IfSome found (λ place.
         IsExplained T.eq opening (take (place + 1) events.now) → ⊥)) }
 {
-    // By the place of an event: the latest receive before it.
+    // For each event: the receive before it whose message was sent last.
     let mut latest: Vec<Option<Latest>, A> = Vec::new(alloc);
     let mut last = None;
     for place in 0..events.len() {
@@ -59,7 +55,6 @@ fn is_refuted<T: Copy + Eq + Drop, A: Allocator>(
     }
 }
 
-// Among the messages received before this receive began, the one that was sent last.
 fn overtaking<T: Copy + Eq + Drop, A: Allocator>(
     events: &[Event<T, A>],
     latest: &[Option<Latest>],
@@ -69,7 +64,6 @@ fn overtaking<T: Copy + Eq + Drop, A: Allocator>(
     let begun = begun_by(before, own.thread)?;
     let latest = latest.get(begun).copied()??;
     let sent = last_send(before, own.message)?;
-    // Else its send hadn't returned.
     if sent < latest.sent {
         Some(Overtaking {
             sent: latest.sent,

@@ -15,7 +15,7 @@ use std::collections::BTreeMap;
 #[derive(Clone, Copy, Debug, PartialEq, Eq, Drop)]
 pub enum Failure {
     NoMemory,
-    /// One of them can't be made, or they end before the last event.
+    /// A choice can't be made, or they end before the last event.
     NoPath,
 }
 
@@ -34,16 +34,14 @@ impl<T: Drop> From<AllocFailed<T>> for Failure {
 /// A channel on which choices are made.
 #[derive(Drop)]
 pub struct Replay<T, A: Allocator> {
-    /// How many events were taken.
+    /// That of the next event.
     pub place: usize,
     pub items: Vec<Item<T, A>, A>,
     chan: Chan<T, (), A>,
-    // Of open calls that have made a step and are to make another, by their places.
     stages: BTreeMap<usize, Stage<T, A>, A>,
 }
 
-/// The items of these choices: the events, and the steps with the replies of a channel of this
-/// capacity (`None`: unbounded).
+/// The items of these choices, with the replies of a channel of this capacity (`None`: unbounded).
 pub fn make_choices<T: Copy + Eq + Drop, A: Allocator + Copy>(
     alloc: A,
     capacity: Option<usize>,
@@ -120,7 +118,7 @@ impl<T: Copy + Eq + Drop, A: Allocator + Copy> Replay<T, A> {
             return Err(Failure::NoPath);
         };
         let reply = reply_to(&mut self.chan, step, refused)?;
-        keep_stage(
+        store_stage(
             &mut self.stages,
             place,
             stage_after(call, stage, reply.clone()?),
@@ -148,8 +146,7 @@ fn reply_to<T: Copy + Eq + Drop, A: Allocator + Copy>(
     }
 }
 
-// A call that has its answer needs no stage.
-fn keep_stage<T: Copy + Eq + Drop, A: Allocator + Copy>(
+fn store_stage<T: Copy + Eq + Drop, A: Allocator + Copy>(
     stages: &mut BTreeMap<usize, Stage<T, A>, A>,
     place: usize,
     stage: Stage<T, A>,

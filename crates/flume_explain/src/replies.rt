@@ -11,9 +11,8 @@ use flume_concurrent::event::Event;
 use flume_model::step::Reply;
 use std::alloc::Allocator;
 
-/// The channel's reply, with the ticket 0, that is this one by places. `message` is that of the
-/// call; `queue` are the sends whose messages are queued. `None`: an allocation failed, or the
-/// reply has a message that no call sends.
+/// The channel's reply, with the ticket 0, for a reply by places to a call with this message, while
+/// these sends are queued. `None`: an allocation failed, or no call sends the reply's message.
 pub fn reply_for<T: Copy + Eq + Drop, A: Allocator + Copy>(
     alloc: A,
     reply_by_place: PlaceReply,
@@ -37,7 +36,6 @@ pub fn reply_for<T: Copy + Eq + Drop, A: Allocator + Copy>(
     }
 }
 
-// A reply without a message.
 fn plain_reply<T, A: Allocator>(reply_by_place: PlaceReply) -> Option<Reply<T, A>>
     ensures corresponds { (events : List (Event T A)) (queue : List ℕ)
         → IfSome result (λ reply. Corresponds events 0 queue reply_by_place reply) }
@@ -79,7 +77,8 @@ pub fn message_of<T: Copy>(call: &Call<T>) -> Option<T>
     }
 }
 
-fn message_at<T: Copy + Eq + Drop, A: Allocator + Copy>(
+/// The message that the call sends that began at a place.
+pub fn message_at<T: Copy + Eq + Drop, A: Allocator + Copy>(
     events: &[Event<T, A>],
     place: usize,
 ) -> Option<T>
@@ -88,7 +87,6 @@ fn message_at<T: Copy + Eq + Drop, A: Allocator + Copy>(
     message_of(call_at(events, place)?)
 }
 
-// `None`: an allocation failed, or a call sends no message.
 fn messages_at<T: Copy + Eq + Drop, A: Allocator + Copy>(
     alloc: A,
     events: &[Event<T, A>],

@@ -8,35 +8,30 @@ ghost use Rattle.flume_explain.specs.Dead.{IsDead};
 ghost use Rattle.flume_explain.specs.Reached.{AreExplained, HasReached, IsReached};
 ghost use Rattle.flume_explain.specs.declared.choice.Choice.{Choice};
 
+use crate::call_records::CallRecords;
 use crate::choice::Choice;
 use crate::configuration::{Configuration, OpenCall};
 use crate::dead::DeadTable;
 use crate::frame::{Frame, Next};
 use crate::happens::Forced;
-use crate::order::Order;
 use flume_concurrent::event::Event;
 use std::alloc::Allocator;
 
 /// The result of a search.
 #[derive(Drop)]
 pub enum Found<A: Allocator> {
-    /// These choices, in order, lead past the last event.
     Path(Vec<Choice, A>),
-    /// No choices do. The furthest configuration was before the event at this place.
+    /// There is no path. The furthest configuration was before the event at this place.
     Nothing(usize),
     NoMemory,
-    /// The limit was reached. The furthest configuration was before the event at this place.
+    /// The limit was reached, with the furthest configuration before the event at this place.
     GaveUp(usize),
 }
 
-/// The result of entering a configuration.
 #[derive(Clone, Copy, Debug, Drop)]
 enum Entered {
-    // Choices may be left.
     GoesOn,
-    // It is past the last event.
     AtEnd,
-    // Nothing is left to try.
     Nowhere,
     NoMemory,
 }
@@ -44,20 +39,16 @@ enum Entered {
 /// A depth-first search.
 #[derive(Drop)]
 pub struct Search<A: Allocator> {
-    /// From the first to the last configuration on the way.
+    /// Of the configurations on the way, in order.
     pub frames: Vec<Frame<A>, A>,
-    /// What was chosen so far, in order.
     pub chosen: Vec<Choice, A>,
-    /// The configurations from which no explanation is found.
     pub dead: DeadTable<A>,
-    /// The furthest place so far.
     pub furthest: usize,
-    order: Order<A>,
+    records: CallRecords<A>,
 }
 
-/// Choices that lead from this configuration past all the events. Enters at most `limit`
-/// configurations after the first one. Events that have no alternative are taken at once: they
-/// enter none.
+/// Choices that lead past all the events, within `limit` configurations after the first one. Events
+/// that have no alternative enter none.
 pub fn find_path<T: Copy + Eq + Drop, A: Allocator + Copy>(
     alloc: A,
     start: Configuration<A>,
@@ -75,10 +66,10 @@ pub fn find_path<T: Copy + Eq + Drop, A: Allocator + Copy>(
         → IsReached T.eq events.now opening 0 start
         → AreExplained T.eq events.now opening furthest }
 {
-    let Some(order) = Order::new(alloc, events) else {
+    let Some(records) = CallRecords::new(alloc, events) else {
         return Found::NoMemory;
     };
-    let mut search = Search::new(alloc, order);
+    let mut search = Search::new(alloc, records);
     let mut advance = search.enter(alloc, events, start, 0);
     for _ in 0..limit {
         if !matches!(advance, Entered::GoesOn) {
@@ -95,24 +86,24 @@ pub fn find_path<T: Copy + Eq + Drop, A: Allocator + Copy>(
 }
 
 impl<A: Allocator + Copy> Search<A> {
-    ghost use Rattle.flume_explain.specs.Search.{IsGoing, Searches};
+    ghost use Rattle.flume_explain.specs.Search.{IsSearch, Searches};
 
-    fn new(alloc: A, order: Order<A>) -> Self
+    fn new(alloc: A, records: CallRecords<A>) -> Self
         ensures no_frames { result.frames.items ≡ [] }
         ensures none_dead { result.dead.dead.items ≡ [] }
-        ensures no_way { result.furthest ≡ 0 }
+        ensures furthest_zero { result.furthest ≡ 0 }
     {
         Search {
             frames: Vec::new(alloc),
             chosen: Vec::new(alloc),
             dead: DeadTable::new(alloc),
             furthest: 0,
-            order,
+            records,
         }
     }
 
     fn advance<T: Copy + Eq + Drop>(&mut self, alloc: A, events: &[Event<T, A>]) -> Entered
-        requires going { IsGoing T.eq events.now self.old }
+        requires is_search { IsSearch T.eq events.now self.old }
         ensures goes_on { result ≡ Entered.GoesOn → (start : State)
             → Searches T.eq events.now start (Unit {0}) self.old
             → Searches T.eq events.now start (Unit {0}) self.new }
@@ -140,10 +131,8 @@ impl<A: Allocator + Copy> Search<A> {
         }
     }
 
-    // Tries the newest frame first. If nothing is left of it, its configuration is remembered as
-    // dead.
     fn next<T: Copy + Eq + Drop>(&mut self, alloc: A, events: &[Event<T, A>]) -> Next<A>
-        requires going { IsGoing T.eq events.now self.old }
+        requires is_search { IsSearch T.eq events.now self.old }
         ensures leads { (choice : Choice) (new : State) (at : ℕ)
             → result ≡ Next.Leads choice new at → (start : State)
             → Searches T.eq events.now start (Unit {0}) self.old
@@ -181,8 +170,6 @@ impl<A: Allocator + Copy> Search<A> {
         Next::Nowhere
     }
 
-    // Takes the events that have no alternative. Leaves a frame, unless the configuration is past
-    // the last event or dead.
     fn enter<T: Copy + Eq + Drop>(
         &mut self,
         alloc: A,
@@ -200,7 +187,7 @@ impl<A: Allocator + Copy> Search<A> {
         ensures at_end { result ≡ Entered.AtEnd → (opening : Opening)
             → IsReached T.eq events.now opening place configuration
             → IsExplained T.eq opening events.now }
-        ensures goes { (result ≡ Entered.Nowhere) → ⊥ }
+        ensures not_nowhere { (result ≡ Entered.Nowhere) → ⊥ }
     {
         match configuration.take_forced(events, place, &mut self.chosen) {
             Forced::AtEnd => Entered::AtEnd,
@@ -232,8 +219,8 @@ impl<A: Allocator + Copy> Search<A> {
             → HasReached T.eq events.now opening self.old
             → IsReached T.eq events.now opening place configuration
             → HasReached T.eq events.now opening self.new }
-        ensures goes { (result ≡ Entered.Nowhere) → ⊥ }
-        ensures goes_on_only { (result ≡ Entered.AtEnd) → ⊥ }
+        ensures not_nowhere { (result ≡ Entered.Nowhere) → ⊥ }
+        ensures not_at_end { (result ≡ Entered.AtEnd) → ⊥ }
     {
         if self.dead.has(&configuration, place) {
             return Entered::GoesOn;
@@ -242,7 +229,7 @@ impl<A: Allocator + Copy> Search<A> {
             return Entered::NoMemory;
         };
         if !self
-            .order
+            .records
             .push_first(events, &configuration, own, &mut choices)
         {
             return Entered::NoMemory;

@@ -8,7 +8,7 @@ use crate::configuration::Progress;
 use flume_concurrent::call::Call;
 use flume_model::step::Kind;
 
-/// A step of an open call, without its ticket and without the message that it sends.
+/// A step of an open call, without its ticket and its message.
 #[derive(Clone, Copy, Debug, PartialEq, Eq, Drop)]
 pub enum Move {
     TrySend,

@@ -1,10 +1,10 @@
 //! Where a choice leads a configuration.
-ghost use Rattle.std.specs.Prelude.{◌≡◌, ◌<◌, ◌+◌, ℕ, false, IsTrue, length, drop, Option, List};
+ghost use Rattle.std.specs.Prelude.{◌≡◌, ◌<◌, ◌+◌, ℕ, false, IsTrue, length, drop, Option};
 ghost use Rattle.std.specs.Option.{option_copied};
 ghost use Rattle.std.specs.List.{Contains};
 ghost use Rattle.flume_concurrent.specs.declared.event.Event.{Event};
 ghost use Rattle.flume_explain.specs.Configurations.{State, first_answer, thread_at};
-ghost use Rattle.flume_explain.specs.Dead.{EventLeads, EventWaits, IsDead, IsSpent};
+ghost use Rattle.flume_explain.specs.Dead.{IsDead, IsSpent};
 ghost use Rattle.flume_explain.specs.Reached.{Reaches};
 ghost use Rattle.flume_explain.specs.declared.choice.Choice.{Choice};
 
@@ -19,9 +19,9 @@ use std::alloc::Allocator;
 /// The result of a choice.
 #[derive(Drop)]
 pub enum ChoiceOutcome<A: Allocator> {
-    /// This configuration comes next, at this place.
+    /// This configuration comes next, before the event at this place.
     Leads(Configuration<A>, usize),
-    /// Nothing that the search has to look at.
+    /// The search needs nothing of this choice.
     Spent,
     NoMemory,
 }
@@ -114,12 +114,11 @@ impl<A: Allocator + Copy> Configuration<A> {
 
 fn has_call(calls: &[OpenCall], call: OpenCall) -> bool
     ensures has { IsTrue result → Contains calls.now call }
-    ensures no { result ≡ false → Contains calls.now call → ⊥ }
+    ensures absent { result ≡ false → Contains calls.now call → ⊥ }
 {
     calls.contains(&call)
 }
 
-// What the call is recorded to return, by the events from a place on.
 fn recorded<T: Copy + Eq + Drop, A: Allocator + Copy>(
     events: &[Event<T, A>],
     place: usize,

@@ -19,9 +19,8 @@ impl ParkedReceive {
     }
 }
 
-// `front` is the front of the queue. Notifies each waiting stream up to the first waiting receive
-// of another kind, which is notified, or filled if it blocks. Whether one was filled: then the
-// front leaves the queue.
+// Notifies waiting streams up to the first waiting receive of another kind, which is notified, or
+// filled with `front` if it blocks. Whether one was filled.
 pub(crate) fn wake_round(receives: &mut [ParkedReceive], front: usize) -> bool
     ensures round { receives.new ≡ round_of front receives.old }
     ensures fills { result ≡ round_fills_one receives.old }

@@ -1,7 +1,6 @@
 -- What `check_script` makes of the bytes of a history.
 use Rattle.std.specs.Prelude.{◌≡◌, ℕ, ◌+◌, ◌⊎◌, ◌↔◌, List, [], ◌∷◌, ◌++◌, length, reverse}
 use Rattle.std.specs.Prelude.{Option, Some, None, codes}
-use Rattle.std.specs.List.{AllZip}
 use Rattle.std.specs.Fmt.{decimal}
 use Rattle.std.specs.Str.Lines.{lines}
 use Rattle.flume_model.specs.declared.step.Step.{Step}
@@ -10,7 +9,8 @@ use Rattle.flume_model.specs.Channel.{Channel, channel}
 use Rattle.flume_model.specs.Log.{Log, opens}
 use Rattle.flume_model.specs.Replies.{IsReply, IsRun}
 use Rattle.flume_script.specs.ReplyTexts.{reply_text}
-use Rattle.flume_script.specs.Script.{IsOpeningLine, IsNoOpening, IsStepLine, wrong_text}
+use Rattle.flume_script.specs.Program.{Refuses}
+use Rattle.flume_script.specs.Script.{IsScript, IsStepLine}
 use Rattle.flume_history.specs.Histories.{IsSaidOf, IsHistory, BreaksAt}
 use Rattle.flume_history.specs.SameRuns.{IsNoMemory}
 
@@ -27,38 +27,6 @@ pub record IsPairLine (line : List ℕ) (pair : Pair) : Type 0 where
   pub step_text : List ℕ
   pub is_step : IsStepLine step_text pair.0
   pub line_is : line ≡ step_text ++ codes " -> " ++ pair.1
-
--- the lines are an opening line, and then one line for each of these pairs
-pub record IsHistoryText (lines : List (List ℕ)) (capacity : Option ℕ) (pairs : List Pair)
-    : Type 0 where
-  pub first : List ℕ
-  pub rest : List (List ℕ)
-  pub lines_are : lines ≡ first ∷ rest
-  pub opens : IsOpeningLine first capacity
-  pub pairs_are : AllZip IsPairLine rest pairs
-
--- the line is no step with a text of its reply
-abbrev pub IsNoPair : List ℕ → Type 0
-IsNoPair line = (pair : Pair) → IsPairLine line pair → ⊥
-
--- this many of the lines are pairs, and the next one isn't
-pub record PairsUpTo (lines : List (List ℕ)) (place : ℕ) : Type 0 where
-  pub before : List (List ℕ)
-  pub pairs : List Pair
-  pub line : List ℕ
-  pub later : List (List ℕ)
-  pub parts : lines ≡ before ++ line ∷ later
-  pub right : AllZip IsPairLine before pairs
-  pub wrong : IsNoPair line
-  pub place_is : length before ≡ place
-
--- the first wrong line has this number, counted from 1; without any line, the first is wrong
-abbrev pub IsFirstWrongPair : List (List ℕ) → ℕ → Type 0
-IsFirstWrongPair [] number = number ≡ 1
-IsFirstWrongPair (first ∷ rest) number =
-    (IsNoOpening first × (number ≡ 1))
-    ⊎ ((capacity : Option ℕ) × IsOpeningLine first capacity
-    × (place : ℕ) × PairsUpTo rest place × (number ≡ place + 2))
 
 -- the text is that of a reply that is lawful there
 abbrev pub IsLawfulText : (A : Type 0) → Channel ℕ → Step ℕ → List ℕ → Type 0
@@ -89,7 +57,7 @@ break_text number said expected =
 pub record PrintsRun (A : Type 0) (input text : List ℕ) (status : ℕ) : Type 0 where
   pub capacity : Option ℕ
   pub pairs : List Pair
-  pub reads : IsHistoryText (lines input) capacity pairs
+  pub reads : IsScript IsPairLine (lines input) capacity pairs
   pub is_history : IsHistory {A = A} Says (opens capacity 1) pairs
   pub text_is : text ≡ codes "run" ++ 10 ∷ []
   pub status_is : status ≡ 0
@@ -101,7 +69,7 @@ pub record Breaks (A : Type 0) (input text : List ℕ) (status : ℕ) : Type 0 w
   pub step : Step ℕ
   pub said : List ℕ
   pub later : List Pair
-  pub reads : IsHistoryText (lines input) capacity (before ++ (step, said) ∷ later)
+  pub reads : IsScript IsPairLine (lines input) capacity (before ++ (step, said) ∷ later)
   pub breaks :
       BreaksAt {A = A} Says (opens capacity 1) (before ++ (step, said) ∷ later) (length before)
   pub expected : List ℕ
@@ -110,14 +78,8 @@ pub record Breaks (A : Type 0) (input text : List ℕ) (status : ℕ) : Type 0 w
   pub text_is : text ≡ break_text (length before + 2) said expected
   pub status_is : status ≡ 1
 
--- a line is wrong: the text names the first one
-pub record RefusesHistory (input text : List ℕ) (status : ℕ) : Type 0 where
-  pub line : ℕ
-  pub wrong : IsFirstWrongPair (lines input) line
-  pub text_is : text ≡ wrong_text line
-  pub status_is : status ≡ 2
-
 -- this text is printed of these bytes, with this status; A allocates the lists of the replies
 abbrev pub Judges : Type 0 → List ℕ → List ℕ → ℕ → Type 0
 Judges A input text status =
-    PrintsRun A input text status ⊎ (Breaks A input text status ⊎ RefusesHistory input text status)
+    PrintsRun A input text status
+    ⊎ (Breaks A input text status ⊎ Refuses IsPairLine input text status)

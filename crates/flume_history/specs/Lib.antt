@@ -3,4 +3,3 @@ pub mod Equal
 pub mod Histories
 pub mod HandedIn
 pub mod HistoryText
-pub mod HistoryReading

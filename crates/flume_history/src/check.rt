@@ -12,19 +12,16 @@ use std::alloc::Allocator;
 /// The result of a check.
 #[derive(Clone, Copy, Debug, PartialEq, Eq, Drop)]
 pub enum Checked {
-    /// A correct channel could have produced it.
     Run,
     /// This many replies are lawful, and the next one isn't.
     Breaks(usize),
-    /// The check itself ran out of memory: nothing is known of the history.
+    /// The check itself ran out of memory: nothing is known.
     NoMemory,
 }
 
-/// Whether a correct channel of this capacity (`None`: unbounded) could have produced the history,
-/// a list of steps with their replies, the oldest first. Messages are compared by their `Eq`. A
-/// reply `NoMemory` is lawful if any channel might have run out of memory at that step, also if a
-/// `Chan` never does; that step changed nothing. Linear in the history, but for finding tickets.
-///
+/// Whether a correct channel of this capacity (`None`: unbounded) could have produced this history,
+/// the oldest step first. Messages are compared by their `Eq`. `NoMemory` is lawful if any channel
+/// might have run out at that step, also if a `Chan` never does. Linear, but for finding tickets.
 /// ```
 /// let history = [
 ///     (Step::TrySend(5), Reply::Sent { filled: None }),

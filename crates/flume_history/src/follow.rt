@@ -1,4 +1,4 @@
-//! Makes a step on a channel, as its reply is recorded.
+//! Makes a step on a channel, and compares its reply with the recorded one.
 ghost use Rattle.std.specs.Prelude.{◌≡◌, ◌∷◌};
 ghost use Rattle.flume_model.specs.Channel.{channel};
 ghost use Rattle.flume_model.specs.Log.{Log, Opening};
@@ -21,13 +21,12 @@ pub enum Followed<T, A: Allocator> {
     Lawful(Reply<T, A>),
     /// No channel may answer so.
     Unlawful,
-    /// The channel itself ran out of memory: nothing is known of the reply.
+    /// The channel itself ran out of memory: nothing is known.
     NoMemory,
 }
 
-/// Makes the step, and says whether the recorded reply is lawful. If that is `NoMemory`, `chan`,
-/// which has the memory, makes no step: its state says whether a channel might have run out.
-/// Messages are compared by their `Eq`.
+/// Makes the step, and says whether the recorded reply is lawful. If that is `NoMemory`, no step is
+/// made: the state says whether a channel might have run out. Messages are compared by their `Eq`.
 pub fn follow_reply<T: Copy + Eq + Drop, A: Allocator + Copy>(
     chan: &mut Chan<T, (), A>,
     step: &Step<T>,

@@ -2,10 +2,9 @@
 ghost use Rattle.std.specs.Prelude.{◌≡◌, ◌↔◌, Option, reverse};
 ghost use Rattle.flume_model.specs.Channel.{channel};
 ghost use Rattle.flume_model.specs.Log.{Log, Opening};
-ghost use Rattle.flume_model.specs.Replies.{IsReply, IsRun};
+ghost use Rattle.flume_model.specs.Replies.{IsReply, IsRun, SameReply};
 ghost use Rattle.flume_model.specs.declared.step.Reply.{Reply};
 ghost use Rattle.flume_model.specs.declared.step.Step.{Step};
-ghost use Rattle.flume_model.specs.Replies.{SameReply};
 ghost use Rattle.flume_state.specs.State.{State};
 ghost use Rattle.flume_core.specs.Represents.{Represents};
 ghost use Rattle.flume_core.specs.Wanting.{NoMemoryIsLawful};
@@ -37,8 +36,7 @@ pub fn runs_are_histories<T: Eq, A: Allocator>()
         → IsHistory (Equals T.eq) opening (reverse log) }
 {}
 
-/// A step may be answered with `NoMemory` exactly if the state says so, and only with the message
-/// that the step hands in.
+/// The state says whether `NoMemory` is lawful for a step; it hands back what the step handed in.
 pub fn no_memory_is_lawful_as_defined<T, S, A: Allocator>()
     ensures allowed { (opening : Opening) (log : Log T A) (s : State T S) (step : Step T)
         → Represents opening log s
@@ -50,7 +48,7 @@ pub fn no_memory_is_lawful_as_defined<T, S, A: Allocator>()
         → back ≡ handed_in step }
 {}
 
-/// Replies are equal if their cases and what they hold are equal, of lists their messages.
+/// Replies are equal if their cases and what they hold are equal.
 pub fn replies_are_equal_by_case<T: PartialEq, A: Allocator>()
     ensures same { (recorded reply : Reply T A)
         → ⟦<Reply<T, A> as PartialEq>⟧.eq recorded reply ≡ equal_replies T.eq recorded reply }

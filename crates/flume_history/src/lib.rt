@@ -1,11 +1,5 @@
-//! Checks a recorded history against the abstract channel.
-//!
-//! `check::check_history` says whether a correct channel could have given the recorded replies, or
-//! which is the first wrong one. `script::check_script` does so for a text, and says what the wrong
-//! reply should have been; `./judge` of the repository runs it.
-//!
-//! This can be decided: after every run, a step has at most one lawful reply other than `NoMemory`
-//! (`laws`). So the steps, and which of them were refused memory, determine all replies.
+//! Checks whether a correct channel could have produced a recorded history. After each run a step
+//! has at most one lawful reply other than `NoMemory` (`laws`), so this can be decided.
 //!
 //! ```
 //! let history = [

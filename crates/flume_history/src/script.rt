@@ -1,13 +1,12 @@
 //! Histories as text: steps with recorded replies.
 ghost use Rattle.flume_core.specs.Represents.{Represents};
-ghost use Rattle.flume_history.specs.HistoryText.{IsLawfulText, IsHistoryText, Judges, Says, Shows};
+ghost use Rattle.flume_history.specs.HistoryText.{IsLawfulText, IsPairLine, Judges, Says, Shows};
 ghost use Rattle.flume_history.specs.HistoryText.{break_text};
-ghost use Rattle.flume_history.specs.HistoryReading.{pairs_of};
 ghost use Rattle.flume_model.specs.Channel.{channel};
 ghost use Rattle.flume_model.specs.Log.{Log, Opening};
 ghost use Rattle.flume_model.specs.declared.step.Reply.{Reply};
 ghost use Rattle.flume_script.specs.ReplyTexts.{reply_text};
-ghost use Rattle.flume_script.specs.Script.{wrong_text};
+ghost use Rattle.flume_script.specs.Script.{IsScript};
 ghost use Rattle.std.specs.Prelude.{IfNone, IfOk, IfSome, ◌≡◌, ℕ, List, [], ◌∷◌, ◌++◌, codes};
 ghost use Rattle.std.specs.Str.Lines.{lines};
 
@@ -17,22 +16,19 @@ use crate::follow::handed_in;
 use flume_core::chan::Chan;
 use flume_core::error::NoMemory;
 use flume_model::step::{Reply, Step};
-use flume_script::ScriptOutput;
-use flume_script::writing::{write_reply, write_wrong};
-use reading::{History, read_history};
+use flume_script::reading::{Reading, read_script};
+use flume_script::writing::write_reply;
+use flume_script::{ScriptOutput, refuse};
+use reading::Pair;
 use std::alloc::Allocator;
 
-/// Whether a correct channel could have given the replies that a text records. The first line opens
-/// the channel, as in a script; each further line is a step, ` -> ` and the reply.
+/// Whether a correct channel could have produced the history in a script with ` -> ` and a reply
+/// behind each step. `NoMemory`: an allocation failed. Linear, but for finding tickets.
 ///
 /// - If a line is wrong, the text and the status are `run_script`'s: all lines are read first.
 /// - If the lines are a history, the text is `run`, and the status 0.
 /// - Else the text names the first line whose reply isn't lawful, this reply, and the lawful one:
-///   the channel's own, and ` or ` `NoMemory` if a channel may answer so too. The status is 1.
-///
-/// Replies are compared as text, so a text that no reply has isn't lawful. `NoMemory`: an
-/// allocation failed. Linear in the length of the input, but for finding tickets.
-///
+///   the channel's own, and ` or ` `NoMemory` if that is too. The status is 1.
 /// ```
 /// let input = b"unbounded\ntry_send 42 -> sent\ntry_recv -> got 41\n";
 /// let script = check_script(alloc, input)?;
@@ -45,34 +41,26 @@ pub fn check_script<A: Allocator + Copy>(
 ) -> Result<ScriptOutput<A>, NoMemory>
     ensures judges { IfOk result (λ script. Judges A input.now script.text.items script.status) }
 {
-    match read_history(alloc, input)? {
-        History::Wrong { line } => refuse(alloc, line),
-        History::Right { capacity, pairs } => judge(alloc, capacity, &pairs),
+    match read_script(alloc, input)? {
+        Reading::Wrong { line } => refuse(alloc, line),
+        Reading::Right { capacity, steps } => judge(alloc, capacity, &steps),
     }
-}
-
-fn refuse<A: Allocator + Copy>(alloc: A, line: usize) -> Result<ScriptOutput<A>, NoMemory>
-    ensures text { IfOk result (λ script. script.text.items ≡ wrong_text line) }
-    ensures status { IfOk result (λ script. script.status ≡ 2) }
-{
-    let text = write_wrong(alloc, line)?;
-    Ok(ScriptOutput { text, status: 2 })
 }
 
 fn judge<A: Allocator + Copy>(
     alloc: A,
     capacity: Option<usize>,
-    pairs: &[(Step<u64>, &[u8])],
+    pairs: &[Pair<'_>],
 ) -> Result<ScriptOutput<A>, NoMemory>
     ensures judges { IfOk result (λ script. (input : List ℕ)
-        → IsHistoryText (lines input) capacity (pairs_of pairs.now)
+        → IsScript IsPairLine (lines input) capacity pairs.now
         → Judges A input script.text.items script.status) }
 {
     let mut chan = Chan::new(alloc, capacity);
     for place in 0..pairs.len() {
-        let (step, said) = pairs[place];
-        if let Some(expected) = expected_text(alloc, &mut chan, step, said)? {
-            let text = write_break(alloc, place + 2, said, &expected)?;
+        let pair = &pairs[place];
+        if let Some(expected) = expected_text(alloc, &mut chan, pair.step, pair.said)? {
+            let text = write_break(alloc, place + 2, pair.said, &expected)?;
             return Ok(ScriptOutput { text, status: 1 });
         }
     }
@@ -81,8 +69,7 @@ fn judge<A: Allocator + Copy>(
     Ok(ScriptOutput { text, status: 0 })
 }
 
-// The step isn't made if the recorded reply is `NoMemory` and lawful. Replies are compared as text
-// and not parsed: one that no channel ever gives is a wrong reply, and no wrong line.
+// Replies aren't parsed: one that no channel ever gives is a wrong reply, and no wrong line.
 fn expected_text<A: Allocator + Copy>(
     alloc: A,
     chan: &mut Chan<u64, (), A>,

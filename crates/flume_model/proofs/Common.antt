@@ -22,25 +22,28 @@ pub use Rattle.flume_model.specs.Asking.{IsPolledBlock, IsPolledOther, IsPolledM
 pub use Rattle.flume_model.specs.Asking.{IsGoneMark, IsGone}
 pub use Rattle.flume_model.specs.Beginnings.{Holds, HoldsThroughout}
 pub use Rattle.flume_model.specs.Channel.{Channel, IsFront, channel, TakesIn, TakesNoneIn, IsAccepted, IsBlocked, has_ticket}
-pub use Rattle.flume_model.specs.Conserved.{held, gives, given_out, IsConserved, Conserved, messages_in}
+pub use Rattle.flume_model.specs.Conserved.{held_messages, gives, given_out, IsConserved, Conserved, messages_in}
 pub use Rattle.flume_model.specs.Counts.{is_over, senders, receivers, senders_after, receivers_after}
-pub use Rattle.flume_model.specs.Entries.{is_filled, is_woken, entry_of, leave_fills, all_woken, round, round_fills, without_ticket, is_waiting}
+pub use Rattle.flume_model.specs.Entries.{is_filled, is_woken, entry_of, leave_fills, all_woken, round, round_fills, without_ticket}
+pub use Rattle.flume_model.specs.Entries.{is_waiting}
 pub use Rattle.flume_model.specs.Entries.{some_wait, waiting_count, woken_count, round_for, round_for_fills, again_as, again, passes_on}
 pub use Rattle.flume_model.specs.Entries.{after_leave, marked, held_in, held_by}
 pub use Rattle.flume_model.specs.Fills.{FillIs, IsOf, shows_to, shown, or_else}
 pub use Rattle.flume_model.specs.Laws.{IsBelow, IsEarlier, Rising, InOrder, TicketsRise, BlockedAtCapacity, HandedOutStay, LiveAreKept}
 pub use Rattle.flume_model.specs.Laws.{AcceptedBelowBlocked}
 pub use Rattle.flume_model.specs.Limits.{IsOpen, most, HasRoom, IsAtCapacity, is_closed, IsClosed, IsBounded}
-pub use Rattle.flume_model.specs.Line.{tickets_issued, issues, how_many, next_ticket, queue, spends, is_live, line, boundary, messages}
+pub use Rattle.flume_model.specs.Line.{tickets_issued, issues, fill_count, next_ticket, queue, spends, is_live, line, boundary, messages}
 pub use Rattle.flume_model.specs.Line.{boundary_after, blocked, capacity, capacity_after, greater, greatest}
 pub use Rattle.flume_model.specs.Log.{Log, Opening, Change, Queues, Blocks, Accepts, Withdraws, Takes, Drains, Parks, Asks, Collects}
-pub use Rattle.flume_model.specs.Log.{Leaves, SenderJoins, ReceiverJoins, SenderLeaves, ReceiverLeaves, Resizes, Stays, is_ticket, filled_by}
+pub use Rattle.flume_model.specs.Log.{Leaves, SenderJoins, ReceiverJoins, SenderLeaves, ReceiverLeaves, Resizes, Stays, is_ticket}
+pub use Rattle.flume_model.specs.Log.{filled_by}
 pub use Rattle.flume_model.specs.Log.{was_filled, change, Offer, HandOut, Shown, FilledIn, capped}
 pub use Rattle.flume_model.specs.Offers.{fill, hands_out, kept, handed_out, hand_outs, offers_made, withdraws, offers, withdrawn}
 pub use Rattle.flume_model.specs.Parked.{LogEntry, same_notice, entries_after, entries, is_closed_after, new_entry, peak}
 pub use Rattle.flume_model.specs.Producers.{HandedOutInOrder}
 pub use Rattle.flume_model.specs.Replies.{IsRun, IsReply}
-pub use Rattle.flume_model.specs.WaitLaws.{Apart, EntriesApart, SidesApart, ToldFilled, block_woken, is_block, IsWithinCapacity, Bounded, Covered}
+pub use Rattle.flume_model.specs.WaitLaws.{Apart, EntriesApart, SidesApart, FilledIfNamed, block_woken, is_block, IsWithinCapacity, Bounded}
+pub use Rattle.flume_model.specs.WaitLaws.{Covered}
 pub use Rattle.flume_model.specs.WaitLaws.{WaitsWhileOpen, NothingOnceOver, WokenBlockWhileClosed}
 pub use Rattle.flume_model.specs.WakeRule.{IsPassed, IsWakeRound}
 pub use Rattle.flume_model.specs.declared.entry.Entry.{Entry}

@@ -4,8 +4,7 @@ use Rattle.flume_model.specs.declared.step.Kind.{Kind}
 use Rattle.flume_model.specs.declared.step.Kind.TheVariants.{Block}
 use Rattle.flume_model.specs.declared.step.Reply.{Reply}
 use Rattle.flume_model.specs.declared.step.Reply.TheVariants.{NoMemory, NoTicket, Got, Ended}
-use Rattle.flume_model.specs.declared.step.Reply.TheVariants.{Waiting}
-use Rattle.flume_model.specs.declared.step.Reply.TheVariants.{Gone}
+use Rattle.flume_model.specs.declared.step.Reply.TheVariants.{Waiting, Gone}
 use Rattle.flume_model.specs.declared.entry.Mark.{Mark}
 use Rattle.flume_model.specs.declared.entry.Mark.TheVariants.{Waiting as StillWaits, Woken, Filled}
 use Rattle.flume_model.specs.Limits.{IsOpen, IsClosed, is_closed}

@@ -19,9 +19,9 @@ module _ {T : Type 0} where
 
 module _ {T N : Type 0} where
   -- the messages that entries hold
-  abbrev pub held : List (Entry T N) → List T
-  held [] = []
-  held (e ∷ entries) = messages_in e.mark ++ held entries
+  abbrev pub held_messages : List (Entry T N) → List T
+  held_messages [] = []
+  held_messages (e ∷ entries) = messages_in e.mark ++ held_messages entries
 
 module _ {T A : Type 0} where
   -- the offered messages that a reply gives out: to a receiver, or back to their sender
@@ -41,7 +41,7 @@ module _ {T A : Type 0} where
   IsConserved opening log weight false =
       sum_by weight (messages (offers log))
       ≡ sum_by weight (given_out log) + sum_by weight (messages (line log))
-      + sum_by weight (held (entries opening log))
+      + sum_by weight (held_messages (entries opening log))
   IsConserved opening log weight true =
       sum_by weight (given_out log) ≤ sum_by weight (messages (offers log))
 

@@ -54,18 +54,18 @@ module _ {T N : Type 0} where
   abbrev pub marked : (N → N) → Mark T → Entry T N → Entry T N
   marked tell mark e = record e { mark = mark; notice = tell e.notice }
 
-  -- a waiting entry that a wake round meets, and those behind it: `goes_on` if the round goes on
-  abbrev pub met : (N → N) → Kind → T → Entry T N → List (Entry T N) → List (Entry T N)
+  -- a wake round at a waiting entry, with those behind it: `as_are`, or `goes_on` if it goes on
+  abbrev pub round_at : (N → N) → Kind → T → Entry T N → List (Entry T N) → List (Entry T N)
       → List (Entry T N)
-  met tell Stream front e as_are goes_on = marked tell Woken e ∷ goes_on
-  met tell Block front e as_are goes_on = marked tell (Filled front) e ∷ as_are
-  met tell kind front e as_are goes_on = marked tell Woken e ∷ as_are
+  round_at tell Stream front e as_are goes_on = marked tell Woken e ∷ goes_on
+  round_at tell Block front e as_are goes_on = marked tell (Filled front) e ∷ as_are
+  round_at tell kind front e as_are goes_on = marked tell Woken e ∷ as_are
 
   -- a wake round: it ends at the first waiting entry that is no stream, which it fills or wakes
   abbrev pub round : (N → N) → T → List (Entry T N) → List (Entry T N)
   round tell front [] = []
   round tell front (e ∷ entries) =
-      if is_waiting e.mark then met tell e.kind front e entries (round tell front entries)
+      if is_waiting e.mark then round_at tell e.kind front e entries (round tell front entries)
       else e ∷ round tell front entries
 
   -- the ticket that a round fills, if it fills one
@@ -80,7 +80,7 @@ module _ {T N : Type 0} where
   round_for tell [] entries = entries
   round_for tell (front ∷ queue) entries = round tell front entries
 
-  -- the ticket that a wake round fills if this is the queue, if it fills one
+  -- the ticket that this round fills, if it fills one
   abbrev pub round_for_fills : List T → List (Entry T N) → Option ℕ
   round_for_fills [] entries = None
   round_for_fills (front ∷ queue) entries = round_fills entries
@@ -108,7 +108,8 @@ module _ {T N : Type 0} where
   abbrev pub again_as : ℕ → Option (Entry T N) → List (Entry T N) → List (Entry T N)
   again_as t None entries = entries
   again_as t (Some e) entries =
-      if is_woken e.mark then without_ticket t entries ++ (record e { mark = Waiting }) ∷ [] else entries
+      if is_woken e.mark then without_ticket t entries ++ (record e { mark = Waiting }) ∷ []
+      else entries
 
   -- a woken entry waits again, behind all others; a waiting one keeps its place
   abbrev pub again : ℕ → List (Entry T N) → List (Entry T N)
@@ -128,4 +129,5 @@ module _ {T N : Type 0} where
   -- the ticket that the wake which the leaving entry passes on fills, if it fills one
   abbrev pub leave_fills : ℕ → List T → List (Entry T N) → Option ℕ
   leave_fills t queue entries =
-      if passes_on (entry_of t entries) then round_for_fills queue (without_ticket t entries) else None
+      if passes_on (entry_of t entries) then round_for_fills queue (without_ticket t entries)
+      else None

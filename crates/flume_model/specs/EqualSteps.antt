@@ -5,11 +5,10 @@ use Rattle.flume_model.specs.declared.step.Kind.TheVariants.{Block, Plain, Strea
 use Rattle.flume_model.specs.declared.step.Step.{Step}
 use Rattle.flume_model.specs.declared.step.Step.TheVariants.{TrySend, Send, PollSend, WithdrawSend}
 use Rattle.flume_model.specs.declared.step.Step.TheVariants.{TryRecv, Recv, Poll, Withdraw, Drain}
-use Rattle.flume_model.specs.declared.step.Step.TheVariants.{CloneSender, CloneReceiver}
-use Rattle.flume_model.specs.declared.step.Step.TheVariants.{DropSender, DropReceiver, SetCapacity}
-use Rattle.flume_model.specs.declared.step.Step.TheVariants.{Len, IsEmpty, IsFull, Capacity}
-use Rattle.flume_model.specs.declared.step.Step.TheVariants.{SenderCount, ReceiverCount}
-use Rattle.flume_model.specs.declared.step.Step.TheVariants.{IsDisconnected}
+use Rattle.flume_model.specs.declared.step.Step.TheVariants.{CloneSender, CloneReceiver, DropSender}
+use Rattle.flume_model.specs.declared.step.Step.TheVariants.{DropReceiver, SetCapacity, Len}
+use Rattle.flume_model.specs.declared.step.Step.TheVariants.{IsEmpty, IsFull, Capacity, SenderCount}
+use Rattle.flume_model.specs.declared.step.Step.TheVariants.{ReceiverCount, IsDisconnected}
 
 -- whether two kinds are the same
 abbrev pub equal_kinds : Kind → Kind → Bool

@@ -1,6 +1,6 @@
 -- What a receiver that was filled got, or still holds, and the message that a hand-out is of.
-use Rattle.std.specs.Prelude.{◌≡◌, ◌==◌, ℕ, Bool, true, false, if◌then◌else◌, List, [], ◌∷◌}
-use Rattle.std.specs.Prelude.{Option, Some, None}
+use Rattle.std.specs.Prelude.{◌≡◌, ◌==◌, ℕ, Bool, true, false, if◌then◌else◌, List, [], ◌∷◌, Option}
+use Rattle.std.specs.Prelude.{Some, None}
 use Rattle.flume_model.specs.declared.step.Step.{Step}
 use Rattle.flume_model.specs.declared.step.Step.TheVariants.{Poll, Withdraw}
 use Rattle.flume_model.specs.declared.step.Reply.{Reply}
@@ -16,8 +16,8 @@ module _ {T : Type 0} where
   or_else None second = second
   or_else (Some message) second = Some message
 
-  -- the hand-out that filled a receiver is of what the receiver got, or else of what its entry
-  -- holds. If both sides disconnected before the receiver got it, nothing is said of it
+  -- a fill is of what its receiver got, or else of what its entry holds. If both sides
+  -- disconnected before the receiver got it, nothing is said of it
   abbrev pub FillIs : Bool → Option T → Option T → T → Type 0
   FillIs over (Some got) held message = got ≡ message
   FillIs true None held message = Unit {0}

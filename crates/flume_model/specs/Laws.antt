@@ -6,8 +6,7 @@ use Rattle.flume_model.specs.declared.step.Step.{Step}
 use Rattle.flume_model.specs.declared.step.Reply.{Reply}
 use Rattle.flume_model.specs.declared.entry.Entry.{Entry}
 use Rattle.flume_model.specs.Log.{Log, Opening, Offer, HandOut}
-use Rattle.flume_model.specs.Offers.{offers, kept, handed_out}
-use Rattle.flume_model.specs.Offers.{hand_outs}
+use Rattle.flume_model.specs.Offers.{offers, kept, handed_out, hand_outs}
 use Rattle.flume_model.specs.Line.{line, capacity, boundary, blocked, next_ticket, is_live}
 use Rattle.flume_model.specs.Channel.{has_ticket}
 use Rattle.flume_model.specs.Limits.{IsAtCapacity}

@@ -1,15 +1,15 @@
 -- What is left of the offers: the line, how much of it is queued, the capacity, the live tickets.
-use Rattle.std.specs.Prelude.{◌==◌, ℕ, ◌+◌, ◌-◌, Bool, false, not, ◌&&◌, ◌||◌, if◌then◌else◌}
-use Rattle.std.specs.Prelude.{List, [], ◌∷◌, length, map, drop, take, max, Option, Some, None}
+use Rattle.std.specs.Prelude.{◌==◌, ℕ, ◌+◌, ◌-◌, Bool, false, not, ◌&&◌, ◌||◌, if◌then◌else◌, List}
+use Rattle.std.specs.Prelude.{[], ◌∷◌, length, map, drop, take, max, Option, Some, None}
 use Rattle.flume_model.specs.Log.{Log, Opening, Offer, Change, Queues, Blocks, Accepts, Withdraws}
 use Rattle.flume_model.specs.Log.{Takes, Drains, Parks, Leaves, Resizes, change, capped}
 use Rattle.flume_model.specs.Offers.{kept, hand_outs}
 use Rattle.flume_model.specs.Counts.{is_over}
 
 -- how many receivers are filled: none or one
-abbrev pub how_many : Option ℕ → ℕ
-how_many None = 0
-how_many (Some ticket) = 1
+abbrev pub fill_count : Option ℕ → ℕ
+fill_count None = 0
+fill_count (Some ticket) = 1
 
 -- the greater of two capacities; none is greater than each
 abbrev pub greater : Option ℕ → Option ℕ → Option ℕ
@@ -28,11 +28,11 @@ module _ {T : Type 0} where
 
   -- how many offers are queued after a change, if `n` were; capacity and length are those after it
   abbrev pub boundary_after : Option ℕ → ℕ → ℕ → Change T → ℕ
-  boundary_after capacity line_length n (Queues message filled) = n + 1 - how_many filled
+  boundary_after capacity line_length n (Queues message filled) = n + 1 - fill_count filled
   boundary_after capacity line_length n (Takes message receiver) =
       max (n - 1) (capped capacity line_length)
   boundary_after capacity line_length n (Drains messages) = capped capacity line_length
-  boundary_after capacity line_length n (Leaves ticket filled) = n - how_many filled
+  boundary_after capacity line_length n (Leaves ticket filled) = n - fill_count filled
   boundary_after capacity line_length n (Resizes new) = max n (capped capacity line_length)
   boundary_after capacity line_length n _ = n
 

@@ -1,12 +1,12 @@
 -- A log of steps and replies, and what each step changes by its reply.
-use Rattle.std.specs.Prelude.{◌==◌, ℕ, Bool, false, ◌||◌, if◌then◌else◌, List, [], ◌∷◌}
-use Rattle.std.specs.Prelude.{min, Option, Some, None}
+use Rattle.std.specs.Prelude.{◌==◌, ℕ, Bool, false, ◌||◌, if◌then◌else◌, List, [], ◌∷◌, min, Option}
+use Rattle.std.specs.Prelude.{Some, None}
 use Rattle.flume_model.specs.declared.step.Kind.{Kind}
 use Rattle.flume_model.specs.declared.step.Step.{Step}
 use Rattle.flume_model.specs.declared.step.Step.TheVariants.{TrySend, Send, PollSend, WithdrawSend}
 use Rattle.flume_model.specs.declared.step.Step.TheVariants.{TryRecv, Recv, Poll, Withdraw, Drain}
-use Rattle.flume_model.specs.declared.step.Step.TheVariants.{CloneSender, CloneReceiver}
-use Rattle.flume_model.specs.declared.step.Step.TheVariants.{DropSender, DropReceiver, SetCapacity}
+use Rattle.flume_model.specs.declared.step.Step.TheVariants.{CloneSender, CloneReceiver, DropSender}
+use Rattle.flume_model.specs.declared.step.Step.TheVariants.{DropReceiver, SetCapacity}
 use Rattle.flume_model.specs.declared.step.Reply.{Reply}
 use Rattle.flume_model.specs.declared.step.Reply.TheVariants.{Sent, Pending, Accepted, Waiting}
 use Rattle.flume_model.specs.declared.step.Reply.TheVariants.{Returned, Got, Ended, Parked, Gone}
@@ -16,7 +16,7 @@ use Rattle.flume_model.specs.declared.step.Reply.TheVariants.{Drained, Done}
 abbrev pub Log : Type 0 → Type 0 → Type 0
 Log T A = List (Step T × Reply T A)
 
--- how a channel is opened: its capacity, or none for an unbounded one, and its first ticket
+-- how a channel is opened: with a capacity, or none if it is unbounded, and with a first ticket
 pub record Opening : Type 0 where
   pub capacity : Option ℕ
   pub first : ℕ

@@ -3,9 +3,8 @@ use Rattle.std.specs.Prelude.{ℕ, Bool, not, ◌&&◌, if◌then◌else◌, Lis
 use Rattle.flume_model.specs.declared.entry.Entry.{Entry}
 use Rattle.flume_model.specs.declared.entry.Mark.TheVariants.{Waiting}
 use Rattle.flume_model.specs.Log.{Log, Opening, Change, Queues, Takes, Parks, Asks, Collects}
-use Rattle.flume_model.specs.Log.{Leaves}
+use Rattle.flume_model.specs.Log.{Leaves, SenderLeaves, ReceiverLeaves, change}
 use Rattle.flume_model.specs.declared.step.Kind.{Kind}
-use Rattle.flume_model.specs.Log.{SenderLeaves, ReceiverLeaves, change}
 use Rattle.flume_model.specs.Counts.{senders, receivers, is_over}
 use Rattle.flume_model.specs.Limits.{is_closed}
 use Rattle.flume_model.specs.Line.{queue}

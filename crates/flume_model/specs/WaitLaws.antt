@@ -90,8 +90,8 @@ module _ {T A : Type 0} where
       → (t < next_ticket opening log) × (entry_of t (entries opening log) ≡ None)
 
   -- a receiver is filled exactly if a reply named its ticket as filled
-  abbrev pub ToldFilled : Opening → Log T A → Type 0
-  ToldFilled opening log =
+  abbrev pub FilledIfNamed : Opening → Log T A → Type 0
+  FilledIfNamed opening log =
       (t : ℕ) (e : LogEntry T) → entry_of t (entries opening log) ≡ Some e
       → was_filled log t ≡ is_filled e.mark
 

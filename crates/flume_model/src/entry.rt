@@ -15,12 +15,8 @@ pub enum Mark<T> {
 /// A parked receiver. `notice` is nothing in a log, and the receiver's signal in a state.
 #[derive(Drop)]
 pub struct Entry<T, N> {
-    /// The ticket under which it parked.
     pub ticket: u64,
-    /// How it receives.
     pub kind: Kind,
-    /// Its state.
     pub mark: Mark<T>,
-    /// What else is known of it.
     pub notice: N,
 }

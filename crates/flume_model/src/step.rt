@@ -5,7 +5,7 @@ use std::alloc::{Allocator, Global};
 /// How a parked receiver receives, and so how a wake round treats it.
 #[derive(Clone, Copy, Debug, PartialEq, Eq, Drop)]
 pub enum Kind {
-    /// It sleeps until it is handed a message: a wake round fills it with the front of the queue.
+    /// It sleeps: a wake round fills it with the front of the queue, and ends.
     Block,
     /// A future of one message: a wake round wakes it and ends.
     Plain,
@@ -15,10 +15,9 @@ pub enum Kind {
     Arm,
 }
 
-/// One step of one party, with the message that it hands in.
+/// One step of one party, with the message that it hands in. `TrySend` and `TryRecv` never wait.
 #[derive(Clone, Copy, Debug, PartialEq, Eq, Drop)]
 pub enum Step<T> {
-    /// Offer a message, without waiting.
     TrySend(T),
     /// Offer a message, and block if it isn't taken in at once.
     Send(T),
@@ -26,7 +25,6 @@ pub enum Step<T> {
     PollSend(u64),
     /// Take back the message of the blocked send with this ticket.
     WithdrawSend(u64),
-    /// Ask for the message at the front, without waiting.
     TryRecv,
     /// Ask for the message at the front, and park if there is none.
     Recv(Kind),
@@ -34,24 +32,19 @@ pub enum Step<T> {
     Poll(u64),
     /// Leave, as the receiver parked under this ticket.
     Withdraw(u64),
-    /// Ask for all queued messages.
     Drain,
     CloneSender,
     CloneReceiver,
     DropSender,
     DropReceiver,
-    /// Set the capacity of a bounded channel.
     SetCapacity(usize),
-    /// Ask how many messages are queued.
     Len,
-    /// Ask whether no message is queued.
     IsEmpty,
     /// Ask whether the queue is at or past its capacity.
     IsFull,
     Capacity,
     SenderCount,
     ReceiverCount,
-    /// Ask whether the channel is closed.
     IsDisconnected,
 }
 
@@ -79,7 +72,6 @@ pub enum Reply<T, A: Allocator = Global> {
     Returned { message: T, closed: bool },
     /// No live ticket of this kind has this number.
     NoTicket,
-    /// The message at the front.
     Got(T),
     /// The channel is open and has no message.
     Empty,
@@ -87,8 +79,7 @@ pub enum Reply<T, A: Allocator = Global> {
     Ended,
     /// The receiver is parked under this ticket.
     Parked(u64),
-    /// The parked receiver left with no message. The wake that it passed on filled
-    /// the receiver `filled`, if any.
+    /// The parked receiver left with no message; its wake filled the receiver `filled`, if any.
     Gone { closed: bool, filled: Option<u64> },
     /// All messages that were queued, in order.
     Drained(Vec<T, A>),
@@ -99,7 +90,6 @@ pub enum Reply<T, A: Allocator = Global> {
     CountFull,
     Number(usize),
     Truth(bool),
-    /// The capacity, or `None` if unbounded.
     Capacity(Option<usize>),
     /// The channel has no capacity to set.
     Unbounded,

@@ -1,8 +1,8 @@
 -- What a fill is of, tried on worked logs in which receivers are filled.
 use Rattle.std.specs.Prelude.{◌≡◌, ℕ, [], ◌∷◌, ◌++◌, false, Some, None}
 use Rattle.flume_model.specs.declared.step.Kind.TheVariants.{Block, Plain}
-use Rattle.flume_model.specs.declared.step.Step.TheVariants.{Send, Poll, Withdraw}
-use Rattle.flume_model.specs.declared.step.Step.TheVariants.{Recv, DropSender, DropReceiver}
+use Rattle.flume_model.specs.declared.step.Step.TheVariants.{Send, Poll, Withdraw, Recv, DropSender}
+use Rattle.flume_model.specs.declared.step.Step.TheVariants.{DropReceiver}
 use Rattle.flume_model.specs.declared.step.Reply.TheVariants.{Sent, Got, Parked, Gone, Done}
 use Rattle.flume_model.specs.Log.{FilledIn, opens}
 use Rattle.flume_model.specs.Parked.{entries}

@@ -13,7 +13,6 @@ ghost use Rattle.flume_model_examples.specs.Rows.{Runs, IsNearMiss};
 
 /// Worked rows in which the capacity is set are runs.
 pub fn capacity_rows_are_runs()
-    // A lowered capacity moves nothing, so the queue is past it, and a take lets none in.
     ensures raised_then_lowered { Runs (Some 1) ((Send 1, Sent None) ∷ (Send 2, Pending 1)
         ∷ (Send 3, Pending 2) ∷ (SetCapacity 2, Done) ∷ (Len, Number 2) ∷ (PollSend 1, Accepted)
         ∷ (PollSend 2, Waiting) ∷ (SetCapacity 0, Done) ∷ (TryRecv, Got 1) ∷ (Len, Number 1) ∷ []) }

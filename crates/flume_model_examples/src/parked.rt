@@ -12,10 +12,11 @@ ghost use Rattle.flume_model.specs.declared.step.Reply.TheVariants.{Returned, No
 ghost use Rattle.flume_model.specs.declared.step.Reply.TheVariants.{Ended, Parked, Gone, Drained};
 ghost use Rattle.flume_model.specs.declared.step.Reply.TheVariants.{Done, Number, Truth};
 ghost use Rattle.flume_model.specs.Log.{opens};
-ghost use Rattle.flume_model.specs.WaitLaws.{MeetsBounds, ToldFilled};
+ghost use Rattle.flume_model.specs.WaitLaws.{MeetsBounds, FilledIfNamed};
 ghost use Rattle.flume_model.specs.Limits.{most};
 ghost use Rattle.flume_model_examples.specs.Rows.{Runs, as_log, IsNearMiss, Numbers};
-ghost use Rattle.flume_model_examples.specs.Rows.{RunsWithoutTickets, one_woken_of_two, plain_filled};
+ghost use Rattle.flume_model_examples.specs.Rows.{RunsWithoutTickets, one_woken_of_two};
+ghost use Rattle.flume_model_examples.specs.Rows.{plain_filled};
 ghost use Rattle.flume_model_examples.specs.FillRows.{filled_with_front, wake_passed_on};
 
 /// Worked rows of receivers that park, are woken, and leave are runs.
@@ -24,7 +25,6 @@ pub fn parked_rows_are_runs()
     ensures drain_lets_blocked_in { (list : Numbers) → list.items ≡ 1 ∷ []
         → Runs (Some 1) ((TrySend 1, Sent None) ∷ (Send 2, Pending 1) ∷ (Drain, Drained list)
         ∷ (TrySend 3, Full 3) ∷ (TryRecv, Got 2) ∷ (PollSend 1, Accepted) ∷ []) }
-    // A drain hands out 1 and 2, which are past the capacity, and lets in as many as the capacity.
     ensures drain_past_capacity { (list : Numbers) → list.items ≡ 1 ∷ 2 ∷ []
         → Runs (Some 1) ((Recv Plain, Parked 1) ∷ (Recv Plain, Parked 2) ∷ (Send 1, Sent None)
         ∷ (Send 2, Sent None) ∷ (Send 3, Pending 3) ∷ (Drain, Drained list) ∷ (Len, Number 1)
@@ -42,7 +42,6 @@ pub fn parked_rows_are_runs()
     ensures wake_passed_on { Runs None wake_passed_on }
     ensures closing_wakes_all { Runs None ((Recv Plain, Parked 1) ∷ (Recv Block, Parked 2)
         ∷ (Send 9, Sent None) ∷ (DropSender, Done) ∷ (Poll 2, Got 9) ∷ (Poll 1, Ended) ∷ []) }
-    // A receiver that blocks and leaves takes the front with it; the one woken for it waits again.
     ensures leaves_with_front { Runs None ((Recv Plain, Parked 1) ∷ (Recv Block, Parked 2)
         ∷ (Send 5, Sent None) ∷ (Withdraw 2, Got 5) ∷ (Poll 1, Waiting) ∷ []) }
     ensures tickets_of_a_side { Runs (Some 0) ((Send 7, Pending 1) ∷ (Poll 1, NoTicket)
@@ -60,7 +59,6 @@ pub fn parked_rows_are_runs()
         ∷ (Withdraw 1, Gone true None) ∷ []) }
     ensures none_parked_when_over { Runs None ((Recv Plain, Parked 1) ∷ (DropSender, Done)
         ∷ (DropReceiver, Done) ∷ (Poll 1, NoTicket) ∷ []) }
-    // A woken receiver that waits again is behind all others, and one that waited keeps its place.
     ensures waits_again_behind { Runs None ((Recv Plain, Parked 1) ∷ (Recv Block, Parked 2)
         ∷ (Poll 1, Waiting) ∷ (Send 5, Sent None) ∷ (TryRecv, Got 5) ∷ (Poll 1, Waiting)
         ∷ (Send 6, Sent (Some 2)) ∷ []) }
@@ -185,5 +183,5 @@ pub fn bounds_are_met()
 
 /// After a near-miss that names a receiver that doesn't block as filled, none is filled.
 pub fn a_plain_receiver_is_never_filled()
-    ensures near_miss { ¬ ToldFilled (opens None 1) (as_log [] plain_filled) }
+    ensures near_miss { ¬ FilledIfNamed (opens None 1) (as_log [] plain_filled) }
 {}

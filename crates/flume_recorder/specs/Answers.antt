@@ -86,8 +86,7 @@ module _ {T : Type 0} where
   future_send_answer (Err (send.Disconnected back)) = Some future.Disconnected
   future_send_answer (Err (send.NoMemory back)) = Some future.NoMemory
 
-  -- of a receive as a future, given whether it was pending before: one that waits isn't over if an
-  -- allocation fails
+  -- of a receive as a future: one that was pending isn't over if an allocation fails
   abbrev pub future_receive_answer : Result T RecvError → Bool → Option (FutureAnswer T)
   future_receive_answer (Ok message) waited = Some (future.Got message)
   future_receive_answer (Err recv.Disconnected) waited = Some future.Disconnected

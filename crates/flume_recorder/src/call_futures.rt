@@ -20,18 +20,15 @@ use futures::{Future, ready};
 use std::alloc::{Allocator, Global};
 
 /// A future that makes one call: a send or a receive of `flume`.
-///
 /// ```
 /// fn is_send<F: CallFuture<u64>>(send: &F, output: &F::Output) -> bool {
 ///     matches!(F::answer(output, false), Some(FutureAnswer::Sent))
 /// }
 /// ```
 pub trait CallFuture<T>: Future {
-    // What an output says of the call, given whether the future was pending before.
     ghost returned: { Self.Output → Bool → Option (FutureAnswer T) };
 
-    /// What the call returned, if this output ends it. A receive that waits, and whose next poll is
-    /// out of memory, gives `NoMemory` and waits on: its call isn't over.
+    /// What the call returned, if it is over: a pending receive that is out of memory isn't.
     fn answer(output: &Self::Output, was_pending: bool) -> Option<FutureAnswer<T>>
         ensures value { result ≡ returned output.now was_pending };
 }
@@ -61,9 +58,8 @@ impl<T: Copy + Drop, R: Waits, C: Allocator + Copy> CallFuture<T> for RecvFut<'_
     }
 }
 
-/// A send or a receive as a future, which gives its result to its recorder. It has a thread number
-/// of its own. Once its call is over it is pending; if it is dropped before, it records that.
-///
+/// A send or a receive as a future, recorded as of a thread of its own. Its call is open until it
+/// is over, after which the future is pending, or until the future is dropped, which is recorded.
 /// ```
 /// assert_eq!(rt; block_on(&rt, recorder.send_async(&tx, 7))?, Ok(()));
 /// ```
@@ -89,7 +85,7 @@ impl<F: CallFuture<T>, T: Copy + Drop, A: Allocator> RecordedFuture<F, T, A> {
     }
 
     fn end(&mut self, answer: FutureAnswer<T>)
-        ensures over { self.new.is_over ≡ true }
+        ensures is_over { self.new.is_over ≡ true }
     {
         self.is_over = true;
         if let Some(slot) = &self.slot {
@@ -147,7 +143,6 @@ impl<F: CallFuture<T>, T: Copy + Drop, A: Allocator> Drop for RecordedFuture<F, 
 
 impl<T: Copy + Drop, A: Allocator + Copy> Recorder<T, A> {
     /// The future of `Sender::send_async`, whose call begins here.
-    ///
     /// ```
     /// assert_eq!(rt; block_on(&rt, recorder.send_async(&tx, 7))?, Ok(()));
     /// ```
@@ -165,7 +160,6 @@ impl<T: Copy + Drop, A: Allocator + Copy> Recorder<T, A> {
     }
 
     /// The future of `Receiver::recv_async`, whose call begins here.
-    ///
     /// ```
     /// recorder.send(&tx, 7)?;
     /// assert_eq!(rt; block_on(&rt, recorder.recv_async(&rx))?, Ok(7));

@@ -2,7 +2,7 @@
 
 use std::sync::atomic::{AtomicU64, Ordering};
 
-/// How many stamps were given, threads and futures numbered, and recorders made.
+/// How many stamps were given, threads numbered, and recorders made.
 #[derive(Drop)]
 pub(crate) struct Counters {
     stamps: AtomicU64,
@@ -19,12 +19,11 @@ impl Counters {
         }
     }
 
-    // Of two stamps the later one is greater.
     pub(crate) fn next_stamp(&self) -> u64 {
         self.stamps.fetch_add(1, Ordering::SeqCst)
     }
 
-    // Threads and futures are numbered together.
+    // Each future counts as a thread.
     pub(crate) fn next_thread(&self) -> usize {
         self.threads.fetch_add(1, Ordering::SeqCst) as usize
     }

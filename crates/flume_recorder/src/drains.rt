@@ -15,8 +15,7 @@ use flume_model::step::Step;
 use std::alloc::{Allocator, Global};
 use std::collections::VecDeque;
 
-/// The messages that a drain took, in order. The remaining ones are dropped with it.
-///
+/// The messages of a drain, in order. It drops the remaining ones.
 /// ```
 /// recorder.send(&tx, 7)?;
 /// let mut messages = recorder.drain(&rx)?;
@@ -25,7 +24,7 @@ use std::collections::VecDeque;
 /// ```
 #[derive(Drop)]
 pub enum DrainedMessages<'a, T: Drop, C: Allocator, A: Allocator = Global> {
-    /// The drain's own: they weren't recorded, since an allocation failed.
+    /// They weren't recorded, since an allocation failed.
     Own(Drain<'a, T, C>),
     List(VecDeque<T, A>),
 }
@@ -62,7 +61,6 @@ fn list_of<T: Drop, C: Allocator, A: Allocator>(
 
 impl<T: Copy + Drop, A: Allocator + Copy> Recorder<T, A> {
     /// Calls `Receiver::drain`.
-    ///
     /// ```
     /// recorder.send(&tx, 7)?;
     /// let mut messages = recorder.drain(&rx)?;

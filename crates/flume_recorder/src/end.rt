@@ -8,8 +8,7 @@ use flume::{Receiver, Sender, Waits};
 use flume_model::step::{Reply, Step};
 use std::alloc::Allocator;
 
-/// A sender or a receiver. Each method is its own of that name.
-///
+/// A sender or a receiver, with its own methods.
 /// ```
 /// fn ask(recorder: &mut Recorder<u64>, end: &impl End) -> usize {
 ///     recorder.len(end)

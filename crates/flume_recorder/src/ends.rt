@@ -12,9 +12,7 @@ use flume_model::step::{Reply, Step};
 use std::alloc::{AllocError, Allocator};
 
 impl<T: Copy + Drop, A: Allocator + Copy> Recorder<T, A> {
-    /// Clones a sender. If no more senders can be counted, it isn't known which step was made, and
-    /// the recorder isn't complete any more.
-    ///
+    /// Clones a sender. `AllocError`: no more can be counted, and the recorder isn't complete then.
     /// ```
     /// let other = recorder.clone_sender(&tx)?;
     /// ```
@@ -38,8 +36,7 @@ impl<T: Copy + Drop, A: Allocator + Copy> Recorder<T, A> {
         result
     }
 
-    /// Clones a receiver; a refusal has the same effect as in `clone_sender`.
-    ///
+    /// Clones a receiver. `AllocError` as in `clone_sender`.
     /// ```
     /// let other = recorder.clone_receiver(&rx)?;
     /// ```
@@ -63,9 +60,7 @@ impl<T: Copy + Drop, A: Allocator + Copy> Recorder<T, A> {
         result
     }
 
-    /// Calls `WeakSender::upgrade`, and records a clone of a sender; a refusal has the same effect
-    /// as in `clone_sender`.
-    ///
+    /// Calls `WeakSender::upgrade`, recorded as a clone. `NoMemory` is as `clone_sender`'s error.
     /// ```
     /// let weak = tx.downgrade()?;
     /// assert!(rt; recorder.upgrade(&weak)?.is_some());
@@ -92,7 +87,6 @@ impl<T: Copy + Drop, A: Allocator + Copy> Recorder<T, A> {
     }
 
     /// Drops a sender.
-    ///
     /// ```
     /// recorder.drop_sender(tx);
     /// ```
@@ -105,7 +99,6 @@ impl<T: Copy + Drop, A: Allocator + Copy> Recorder<T, A> {
     }
 
     /// Drops a receiver.
-    ///
     /// ```
     /// recorder.drop_receiver(rx);
     /// ```

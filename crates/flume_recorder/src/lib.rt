@@ -1,9 +1,6 @@
-//! Records what threads do on a channel: when each of their calls began, and what it returned.
-//!
-//! A `Recording` makes a `Recorder` for each thread, which has a method for each call of an end. At
-//! the end `Recording::events` merges what they recorded in the order of time, and
-//! `write_recording` writes it as text, which `flume_recording` reads.
-//!
+//! Records the calls of threads on a channel: when each began and returned, and its answer. Each
+//! thread calls a `Recorder`; at the end `Recording::events` merges what they recorded, and
+//! `write_recording` writes it as text.
 //! ```
 //! let recording = Recording::new(rt.alloc())?;
 //! let (tx, rx) = flume::on(rt).bounded(1)?;
@@ -19,21 +16,12 @@
 //! let text = write_recording(rt.alloc(), Some(1), events.as_slice())?;
 //! ```
 //!
-//! # When a call began and when it returned
+//! A call takes the next number of a shared counter just before it begins, and another one just
+//! after it has returned, so that each of its steps lies between the two. A recorder takes no lock.
+//! If an allocation of it fails, the call is made, and the recorder isn't complete any more.
 //!
-//! All recorders share one number. A call takes the next one just before it begins, and the next
-//! one just after it has returned. So each step of a call lies between its two numbers. Nothing
-//! else is shared: a recorder takes no lock.
-//!
-//! # If an allocation fails
-//!
-//! The call is made all the same, and its result is handed on. The recorder isn't complete then,
-//! and `Recording::events` answers `Incomplete`.
-//!
-//! # What isn't recorded
-//!
-//! Selections, iterators, streams, sinks, and calls of many messages: a thread that makes one makes
-//! the recording wrong. `Sender::downgrade` makes no step of the channel, and isn't recorded.
+//! A thread that makes a selection, a call of many messages, or uses an iterator, a stream or a
+//! sink makes the recording wrong. `Sender::downgrade` makes no step, and isn't recorded.
 #![tactic(auto)]
 
 mod answers;

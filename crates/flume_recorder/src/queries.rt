@@ -15,7 +15,6 @@ use std::alloc::Allocator;
 
 impl<T: Copy + Drop, A: Allocator + Copy> Recorder<T, A> {
     /// Calls `len` of the end: how many messages are queued.
-    ///
     /// ```
     /// assert_eq!(rt; recorder.len(&rx), 0);
     /// ```
@@ -31,7 +30,6 @@ impl<T: Copy + Drop, A: Allocator + Copy> Recorder<T, A> {
     }
 
     /// Calls `is_empty` of the end: whether no message is queued.
-    ///
     /// ```
     /// assert!(rt; recorder.is_empty(&rx));
     /// ```
@@ -47,7 +45,6 @@ impl<T: Copy + Drop, A: Allocator + Copy> Recorder<T, A> {
     }
 
     /// Calls `is_full` of the end: whether the queue is at or past the capacity.
-    ///
     /// ```
     /// assert!(rt; !recorder.is_full(&tx));
     /// ```
@@ -63,7 +60,6 @@ impl<T: Copy + Drop, A: Allocator + Copy> Recorder<T, A> {
     }
 
     /// Calls `capacity` of the end: `None` if unbounded.
-    ///
     /// ```
     /// assert_eq!(rt; recorder.capacity(&tx), Some(1));
     /// ```
@@ -79,7 +75,6 @@ impl<T: Copy + Drop, A: Allocator + Copy> Recorder<T, A> {
     }
 
     /// Calls `sender_count` of the end.
-    ///
     /// ```
     /// assert_eq!(rt; recorder.sender_count(&tx), 1);
     /// ```
@@ -95,7 +90,6 @@ impl<T: Copy + Drop, A: Allocator + Copy> Recorder<T, A> {
     }
 
     /// Calls `receiver_count` of the end.
-    ///
     /// ```
     /// assert_eq!(rt; recorder.receiver_count(&tx), 1);
     /// ```
@@ -111,7 +105,6 @@ impl<T: Copy + Drop, A: Allocator + Copy> Recorder<T, A> {
     }
 
     /// Calls `is_disconnected` of the end: whether the channel is closed.
-    ///
     /// ```
     /// assert!(rt; !recorder.is_disconnected(&tx));
     /// ```
@@ -127,7 +120,6 @@ impl<T: Copy + Drop, A: Allocator + Copy> Recorder<T, A> {
     }
 
     /// Calls `set_capacity` of the end.
-    ///
     /// ```
     /// assert_eq!(rt; recorder.set_capacity(&tx, 2), Ok(()));
     /// ```

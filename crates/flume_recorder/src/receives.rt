@@ -1,5 +1,4 @@
 //! The receives of one message.
-ghost use Rattle.std.specs.Prelude.{◌≡◌};
 ghost use Rattle.flume_deadline.specs.declared.Deadline.{Deadline};
 ghost use Rattle.flume_deadline.specs.Deadlines.{IsAfter};
 ghost use Rattle.flume_calls.specs.ReceiveTurns.{after_try_recv};
@@ -20,7 +19,6 @@ use std::time::{Duration, Instant};
 
 impl<T: Copy + Drop, A: Allocator + Copy> Recorder<T, A> {
     /// Calls `Receiver::recv`.
-    ///
     /// ```
     /// recorder.send(&tx, 7)?;
     /// assert_eq!(rt; recorder.recv(&rx), Ok(7));
@@ -39,7 +37,6 @@ impl<T: Copy + Drop, A: Allocator + Copy> Recorder<T, A> {
     }
 
     /// Calls `Receiver::recv_deadline`.
-    ///
     /// ```
     /// let none = recorder.recv_deadline(&rx, Instant::now(&rt)?);
     /// assert_eq!(rt; none, Err(RecvTimeoutError::Timeout));
@@ -60,7 +57,6 @@ impl<T: Copy + Drop, A: Allocator + Copy> Recorder<T, A> {
     }
 
     /// Calls `Receiver::recv_timeout`.
-    ///
     /// ```
     /// let none = recorder.recv_timeout(&rx, Duration::from_millis(1));
     /// assert_eq!(rt; none, Err(RecvTimeoutError::Timeout));
@@ -82,7 +78,6 @@ impl<T: Copy + Drop, A: Allocator + Copy> Recorder<T, A> {
     }
 
     /// Calls `Receiver::try_recv`.
-    ///
     /// ```
     /// assert_eq!(rt; recorder.try_recv(&rx), Err(TryRecvError::Empty));
     /// ```

@@ -1,7 +1,6 @@
 //! The recorder of a thread.
 ghost use Rattle.std.specs.Prelude.{◌≡◌, IsTrue, List, [], ◌∷◌};
-ghost use Rattle.flume_recorder.specs.Records.{Adds, BeginsFuture, Records};
-ghost use Rattle.flume_recorder.specs.Records.{events_of, is_complete};
+ghost use Rattle.flume_recorder.specs.Records.{Adds, BeginsFuture, Records, events_of, is_complete};
 
 use crate::counters::Counters;
 use crate::slot::{FutureSlot, Slot, SlotWriter};
@@ -17,9 +16,7 @@ pub(crate) struct Entry<T: Drop, A: Allocator> {
     pub(crate) event: Event<T, A>,
 }
 
-/// What a thread records of its calls. `Recording::recorder` makes one. Each call of an end has a
-/// method, which makes the call and hands its result on.
-///
+/// What a thread records of its calls. Each method makes a call of an end, and returns its result.
 /// ```
 /// let mut recorder = recording.recorder()?;
 /// recorder.try_send(&tx, 7)?;
@@ -37,10 +34,9 @@ pub struct Recorder<T: Drop, A: Allocator + Copy = Global> {
 }
 
 impl<T: Copy + Drop, A: Allocator + Copy> Recorder<T, A> {
-    // Doesn't allocate.
     pub(crate) fn new(alloc: A, counters: Arc<Counters, A>) -> Self
         ensures none { events_of result ≡ [] }
-        ensures whole { IsTrue (is_complete result) }
+        ensures complete { IsTrue (is_complete result) }
     {
         counters.count_recorder();
         let thread = counters.next_thread();
@@ -54,31 +50,29 @@ impl<T: Copy + Drop, A: Allocator + Copy> Recorder<T, A> {
         }
     }
 
-    /// Whether each call was recorded: no allocation failed.
-    ///
+    /// Whether each call was recorded.
     /// ```
     /// recorder.try_send(&tx, 7)?;
     /// assert!(rt; recorder.is_complete());
     /// ```
     pub fn is_complete(&self) -> bool
-        ensures whole { result ≡ is_complete self.now }
+        ensures complete { result ≡ is_complete self.now }
     {
         self.is_complete
     }
 
     pub(crate) fn mark_incomplete(&mut self)
         ensures added { (events : List (Event T A)) → Adds self.old self.new events }
-        ensures lost { IsTrue (is_complete self.new) → ⊥ }
+        ensures incomplete { IsTrue (is_complete self.new) → ⊥ }
     {
         self.is_complete = false;
     }
 
-    // The stamp of a call that begins now.
     pub(crate) fn begin(&self) -> u64 {
         self.counters.next_stamp()
     }
 
-    fn keep(&mut self, stamp: u64, event: Event<T, A>)
+    fn push_event(&mut self, stamp: u64, event: Event<T, A>)
         ensures added { Adds self.old self.new (event ∷ []) }
     {
         if self.entries.push(Entry { stamp, event }).is_err() {
@@ -91,12 +85,11 @@ impl<T: Copy + Drop, A: Allocator + Copy> Recorder<T, A> {
     {
         let returned = self.counters.next_stamp();
         let thread = self.thread;
-        self.keep(began, Event::Begins { thread, call });
-        self.keep(returned, Event::Returns { thread, answer });
+        self.push_event(began, Event::Begins { thread, call });
+        self.push_event(returned, Event::Returns { thread, answer });
     }
 
-    // The future gets a number of its own, and writes its result into the slot. `None`: an
-    // allocation failed.
+    // `None`: an allocation failed.
     pub(crate) fn begin_future(&mut self, call: Call<T>) -> Option<SlotWriter<T, A>>
         ensures begun { BeginsFuture self.old self.new call }
     {
@@ -106,7 +99,7 @@ impl<T: Copy + Drop, A: Allocator + Copy> Recorder<T, A> {
             self.mark_incomplete();
         }
         let stamp = self.counters.next_stamp();
-        self.keep(stamp, Event::Begins { thread, call });
+        self.push_event(stamp, Event::Begins { thread, call });
         slot
     }
 

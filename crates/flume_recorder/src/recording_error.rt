@@ -1,4 +1,4 @@
-//! Why there is no list of events.
+//! The error of a recording.
 ghost use Rattle.std.specs.Prelude.{◌≡◌, Some};
 ghost use Rattle.std.specs.Fmt.{styled_text};
 ghost use Rattle.std.specs.IoError.{error_kind};
@@ -14,9 +14,9 @@ use std::{fmt, io};
 #[derive(Clone, Copy, Debug, PartialEq, Eq, Drop)]
 pub enum RecordingError {
     NoMemory,
-    /// An allocation failed while a recorder recorded.
+    /// An allocation of a recorder failed.
     Incomplete,
-    /// Not all recorders that were made are there.
+    /// A recorder is missing.
     Missing,
 }
 
@@ -32,7 +32,6 @@ impl RecordingError {
     }
 }
 
-// One text for each case, padded and cut as text is.
 impl fmt::Display for RecordingError {
     ghost output = { λ e. Some (error_text e) };
 
@@ -53,7 +52,6 @@ impl From<AllocError> for RecordingError {
     }
 }
 
-// `InvalidInput` if a recorder is missing, and else `OutOfMemory`.
 impl From<RecordingError> for io::Error {
     ghost from_gives = { λ e error. error_kind error ≡ kind_of e };
 

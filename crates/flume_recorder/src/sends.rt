@@ -1,5 +1,4 @@
 //! The sends.
-ghost use Rattle.std.specs.Prelude.{◌≡◌};
 ghost use Rattle.flume_deadline.specs.declared.Deadline.{Deadline};
 ghost use Rattle.flume_deadline.specs.Deadlines.{IsAfter};
 ghost use Rattle.flume_calls.specs.SendTurns.{after_try_send};
@@ -20,7 +19,6 @@ use std::time::{Duration, Instant};
 
 impl<T: Copy + Drop, A: Allocator + Copy> Recorder<T, A> {
     /// Calls `Sender::send`.
-    ///
     /// ```
     /// assert_eq!(rt; recorder.send(&tx, 7), Ok(()));
     /// ```
@@ -39,7 +37,6 @@ impl<T: Copy + Drop, A: Allocator + Copy> Recorder<T, A> {
     }
 
     /// Calls `Sender::send_deadline`.
-    ///
     /// ```
     /// recorder.send(&tx, 7)?;
     /// let full = recorder.send_deadline(&tx, 8, Instant::now(&rt)?);
@@ -66,7 +63,6 @@ impl<T: Copy + Drop, A: Allocator + Copy> Recorder<T, A> {
     }
 
     /// Calls `Sender::send_timeout`.
-    ///
     /// ```
     /// recorder.send(&tx, 7)?;
     /// let full = recorder.send_timeout(&tx, 8, Duration::from_millis(1));
@@ -94,7 +90,6 @@ impl<T: Copy + Drop, A: Allocator + Copy> Recorder<T, A> {
     }
 
     /// Calls `Sender::try_send`.
-    ///
     /// ```
     /// assert_eq!(rt; recorder.try_send(&tx, 7), Ok(()));
     /// assert_eq!(rt; recorder.try_send(&tx, 8), Err(TrySendError::Full(8)));

@@ -1,4 +1,4 @@
-//! What a future's call returned, written by the future for the recorder that made it.
+//! Slots, into which futures write for their recorders what they return.
 ghost use Rattle.std.specs.Prelude.{◌≡◌};
 ghost use Rattle.flume_recorder.specs.Answers.{recorded_answer};
 
@@ -14,28 +14,25 @@ pub enum FutureAnswer<T> {
     Got(T),
     Disconnected,
     NoMemory,
-    /// It was dropped before it was ready.
+    /// Before it was ready.
     Dropped,
 }
 
-/// When a future's call returned, and what.
 #[derive(Clone, Copy, Drop)]
 pub(crate) struct Return<T> {
     pub(crate) stamp: u64,
     pub(crate) answer: FutureAnswer<T>,
 }
 
-/// Empty until the future's call returns.
+// Empty until the call returns.
 pub(crate) type Slot<T> = OnceLock<Return<T>>;
 
-/// The future's side.
 #[derive(Drop)]
 pub(crate) struct SlotWriter<T: Drop, A: Allocator> {
     pub(crate) counters: Arc<Counters, A>,
     pub(crate) slot: Arc<Slot<T>, A>,
 }
 
-/// The recorder's side; `thread` is the number of the future.
 #[derive(Drop)]
 pub(crate) struct FutureSlot<T: Drop, A: Allocator> {
     pub(crate) thread: usize,
@@ -43,7 +40,7 @@ pub(crate) struct FutureSlot<T: Drop, A: Allocator> {
 }
 
 impl<T: Copy + Drop, A: Allocator> SlotWriter<T, A> {
-    // Only the first answer is kept.
+    // Only the first answer counts.
     pub(crate) fn write(&self, answer: FutureAnswer<T>) {
         let stamp = self.counters.next_stamp();
         let _ = self.slot.try_set(Return { stamp, answer });

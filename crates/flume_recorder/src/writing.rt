@@ -50,10 +50,8 @@ fn write_line<A: Allocator + Copy>(
     Ok(())
 }
 
-/// The text of a recording of a channel of this capacity (`None`: unbounded), which
-/// `flume_recording::recording::read_recording` reads. The threads' names are their numbers.
-/// `NoMemory`: the text couldn't be allocated.
-///
+/// The text of a recording of a channel of this capacity (`None`: unbounded), with numbers as names
+/// of the threads. `NoMemory`: the text couldn't be allocated.
 /// ```
 /// recorder.try_send(&tx, 7)?;
 /// let events = recording.events(vec![in rt.alloc(); recorder]?)?;

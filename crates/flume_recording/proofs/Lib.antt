@@ -1,8 +1,8 @@
-pub mod Cuts
-pub mod LineParts
-pub mod ThreadNames
-pub mod ReadEvents
-pub mod Digits
-pub mod CallWords
-pub mod AnswerWords
-pub mod SpacedNumbers
+pub mod CutLemmas
+pub mod LinePartLemmas
+pub mod ThreadNameLemmas
+pub mod ReadEventLemmas
+pub mod DigitLemmas
+pub mod CallWordLemmas
+pub mod AnswerWordLemmas
+pub mod SpacedNumberLemmas

@@ -17,11 +17,11 @@ pub record IsName (name : List ℕ) : Type 0 where
   pub no_space : All (λ x. (x == 32) ≡ false) name
   pub no_colon : All (λ x. (x == 58) ≡ false) name
 
--- the line on which this thread begins the call of this text
+-- the line of a begin
 abbrev pub begins_line : List ℕ → List ℕ → List ℕ
 begins_line name text = name ++ codes ": " ++ text
 
--- the line on which this thread's call returns the answer of this text
+-- the line of a return
 abbrev pub returns_line : List ℕ → List ℕ → List ℕ
 returns_line name text = name ++ codes " -> " ++ text
 
@@ -35,7 +35,7 @@ module _ {A : Type 0} where
   thread_of (Begins thread call) = thread
   thread_of (Returns thread answer) = thread
 
-  -- the text of an event, with these names of the threads
+  -- the text of an event
   abbrev pub event_text : List (List ℕ) → Event ℕ A → List ℕ
   event_text names (Begins thread call) = begins_line (name_of names thread) (call_text call)
   event_text names (Returns thread answer) =
@@ -46,14 +46,14 @@ module _ {A : Type 0} where
   EventFits (Begins thread call) = FitsIfAny (call_number call)
   EventFits (Returns thread answer) = AnswerFits answer
 
-  -- the line is this event, with these names of the threads
+  -- the line is this event
   pub record IsEventLine (names : List (List ℕ)) (line : List ℕ) (event : Event ℕ A) : Type 0 where
     pub line_is : line ≡ event_text names event
     pub fits : EventFits event
     pub known : thread_of event < length names
     pub name : IsName (name_of names (thread_of event))
 
--- the line is no event, whatever the threads' names are
+-- the line is no event, whatever the names are
 abbrev pub IsNoEvent : Type 0 → List ℕ → Type 0
 IsNoEvent A line = (names : List (List ℕ)) (event : Event ℕ A) → ¬ IsEventLine names line event
 

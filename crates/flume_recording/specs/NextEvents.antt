@@ -9,15 +9,14 @@ use Rattle.flume_recording.specs.Recordings.{asking_after, IsReadBy}
 abbrev pub asking_in : List Bool → ℕ → Bool
 asking_in asking thread = slice_index_or asking thread false
 
--- this is the thread of the name, which had it before; or the next thread, whose name is put last
+-- the thread had the name before, or is the next one, whose name is added
 abbrev pub IsThreadOf : List (List ℕ) → List ℕ → ℕ → List (List ℕ) → Type 0
 IsThreadOf names name thread names' =
     ((thread < length names) × (name_of names thread ≡ name) × (names' ≡ names))
     ⊎ (((t : ℕ) → t < length names → ¬ (name_of names t ≡ name))
     × (thread ≡ length names) × (names' ≡ names ++ name ∷ []))
 
--- the line is this event, of a thread that had its name before or is the next one; `names` and
--- `asking` are those before the line, `names'` and `asking'` those after it
+-- the line is this event; `names` and `asking` are those before it, `names'` and `asking'` after it
 pub record IsNextEvent {A : Type 0} (names : List (List ℕ)) (asking : ℕ → Bool) (line : List ℕ)
     (event : Event ℕ A) (names' : List (List ℕ)) (asking' : ℕ → Bool) : Type 0 where
   pub name : List ℕ

@@ -29,8 +29,7 @@ AreDistinct names =
     (t u : ℕ) → t < u → u < length names → ¬ (name_of names t ≡ name_of names u)
 
 module _ {A : Type 0} where
-  -- the threads are numbered as they appear first: if `known` have appeared, each event is of one
-  -- of them or of the next one, and in the end `count` have
+  -- after `known` threads, each event is of one of them or of the next one, up to `count` in all
   abbrev pub AreNumbered : ℕ → List (Event ℕ A) → ℕ → Type 0
   AreNumbered known [] count = known ≡ count
   AreNumbered known (event ∷ events) count =
@@ -47,7 +46,7 @@ module _ {A : Type 0} where
   IsReadBy asking (Begins thread call) = Unit {0}
   IsReadBy asking (Returns thread answer) = IsNumberOf (asking thread) answer
 
-  -- an answer that is a number is a capacity exactly if its thread's last call asked for one
+  -- the same of each event
   abbrev pub AreReadByCalls : (ℕ → Bool) → List (Event ℕ A) → Type 0
   AreReadByCalls asking [] = Unit {0}
   AreReadByCalls asking (event ∷ events) =
@@ -61,7 +60,7 @@ pub record AreEventLines {A : Type 0} (lines : List (List ℕ)) (events : List (
   pub numbered : AreNumbered 0 events (length names)
   pub by_calls : AreReadByCalls (λ thread. false) events
 
--- the lines are an opening line, and then a line for each of these events, in order
+-- the lines are an opening line, and then a line for each of these events
 pub record IsRecordingText {A : Type 0} (lines : List (List ℕ)) (capacity : Option ℕ)
     (events : List (Event ℕ A)) (names : List (List ℕ)) : Type 0 where
   pub first : List ℕ
@@ -70,7 +69,7 @@ pub record IsRecordingText {A : Type 0} (lines : List (List ℕ)) (capacity : Op
   pub opens : IsOpeningLine first capacity
   pub events_are : AreEventLines rest events names
 
--- this many of the lines are events, and the next one is none, for this reason
+-- `place` lines are events, and the next one is none, for this reason
 pub record EventsUpTo (A : Type 0) (lines : List (List ℕ)) (place : ℕ) (fault : Fault)
     : Type 0 where
   pub before : List (List ℕ)
@@ -92,7 +91,7 @@ IsFirstWrongEvent A (first ∷ rest) number fault =
     ⊎ ((capacity : Option ℕ) × IsOpeningLine first capacity
     × (place : ℕ) × EventsUpTo A rest place fault × (number ≡ place + 2))
 
--- the names, which are read by reference
+-- the names that these borrow
 abbrev pub names_of : List (Bor (List ℕ)) → List (List ℕ)
 names_of names = map (λ name. name.now) names
 

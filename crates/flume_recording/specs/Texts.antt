@@ -22,7 +22,7 @@ use Rattle.flume_concurrent.specs.declared.call.Answer.TheVariants.{Dropped, Dra
 use Rattle.flume_concurrent.specs.declared.call.Answer.TheVariants.{CountFull, Number, Truth}
 use Rattle.flume_concurrent.specs.declared.call.Answer.TheVariants.{Capacity, Unbounded}
 
--- what is behind a number of a list: nothing, or a space and this
+-- nothing, or a space and this
 abbrev pub behind_space : Option (Bor (List ℕ)) → List ℕ
 behind_space None = []
 behind_space (Some text) = 32 ∷ text.now
@@ -51,7 +51,7 @@ call_word SenderCount = codes "sender_count"
 call_word ReceiverCount = codes "receiver_count"
 call_word IsDisconnected = codes "is_disconnected"
 
--- the number that is behind the word of a call, if there is one
+-- the number behind the word of a call
 abbrev pub call_number : Call ℕ → Option ℕ
 call_number (Send message) = Some message
 call_number (SendTimeout message) = Some message
@@ -120,12 +120,12 @@ module _ {A : Type 0} where
   abbrev pub IsAnswerText : List ℕ → Answer ℕ A → Type 0
   IsAnswerText text answer = (text ≡ answer_text answer) × AnswerFits answer
 
-  -- A number is a capacity if the call asked for one, and else a number: their texts are the same.
+  -- it is a capacity, and no number, exactly if the call asked for one: their texts are the same
   abbrev pub IsNumberOf : Bool → Answer ℕ A → Type 0
   IsNumberOf asks (Number number) = asks ≡ false
   IsNumberOf asks (Capacity (Some capacity)) = asks ≡ true
   IsNumberOf asks _ = Unit {0}
 
--- it is the text of no answer, whose lists are kept by an allocator `A`
+-- it is the text of no answer; `A` allocates the lists
 abbrev pub IsNoAnswer : Type 0 → List ℕ → Type 0
 IsNoAnswer A text = (answer : Answer ℕ A) → ¬ IsAnswerText text answer

@@ -1,5 +1,5 @@
 //! The texts of answers.
-ghost use Rattle.std.specs.Prelude.{MatchOption, IfOk, IfSome, OnOk, ◌≡◌, ◌==◌, ◌++◌, ◌∷◌, ℕ};
+ghost use Rattle.std.specs.Prelude.{MatchOption, IfOk, IfSome, OnOk, ◌≡◌, ◌==◌, ◌++◌, ℕ};
 ghost use Rattle.std.specs.Prelude.{false, string_bytes, Bool, List, codes};
 ghost use Rattle.std.specs.List.{All};
 ghost use Rattle.std.specs.Fmt.{decimal};
@@ -70,9 +70,8 @@ fn short_answer<A: Allocator>(text: &[u8], asks: bool) -> Option<Answer<u64, A>>
     }
 }
 
-/// The answer that a text represents, if any. A number is a capacity exactly if the call `asks` for
-/// one. `NoMemory`: a list couldn't be allocated.
-///
+/// The answer of a text, if any: a number is a capacity if the call `asks` for one. `NoMemory`: a
+/// list couldn't be allocated.
 /// ```
 /// answer_of(alloc, b"got 7", false)?;    // Some(Got(7))
 /// answer_of(alloc, b"7", true)?;         // Some(Capacity(Some(7)))
@@ -133,7 +132,6 @@ fn write_drained<A: Allocator>(text: &mut String<A>, list: &[u64]) -> Result<(),
 }
 
 /// Adds the text of an answer. `NoMemory`: the text couldn't grow, and may have a part of this.
-///
 /// ```
 /// let mut text = String::new(alloc);
 /// write_answer(&mut text, &Answer::Got(7))?;

@@ -1,9 +1,9 @@
 //! The texts of calls.
-ghost use Rattle.std.specs.Prelude.{MatchOption, IsTrue, OnOk, ◌≡◌, ◌↔◌, ◌==◌, ◌++◌, ◌∷◌, ℕ};
+ghost use Rattle.std.specs.Prelude.{MatchOption, IsTrue, OnOk, ◌≡◌, ◌↔◌, ◌==◌, ◌++◌, ◌∷◌};
 ghost use Rattle.std.specs.Prelude.{false, string_bytes};
 ghost use Rattle.std.specs.List.{All};
 ghost use Rattle.std.specs.Fmt.{decimal};
-ghost use Rattle.flume_recording.specs.Texts.{call_number, call_text, call_word, FitsWord};
+ghost use Rattle.flume_recording.specs.Texts.{call_number, call_text, call_word};
 ghost use Rattle.flume_recording.specs.Texts.{IsCallText, IsNoCall};
 
 use crate::numbers::number_of;
@@ -58,8 +58,7 @@ fn number_call(word: &[u8], number: u64) -> Option<Call<u64>>
     }
 }
 
-/// The call that a text represents, if any.
-///
+/// The call of a text, if any.
 /// ```
 /// call_of(b"send 7");                // Some(Send(7))
 /// call_of(b"send");                  // None
@@ -115,7 +114,6 @@ fn number_in(call: &Call<u64>) -> Option<u64>
 }
 
 /// Adds the text of a call. `NoMemory`: the text couldn't grow, and may have a part of this.
-///
 /// ```
 /// let mut text = String::new(alloc);
 /// write_call(&mut text, &Call::Send(7))?;

@@ -1,11 +1,6 @@
-//! Recordings: what threads recorded of their calls on a channel, as text. `read_recording` reads
-//! one to the events of `flume_concurrent`, and `write_event` writes an event.
-//!
-//! The first line opens the channel: `unbounded`, or `bounded N`. Each further line is an event, in
-//! the order of time: `THREAD: CALL` if a call begins, and `THREAD -> ANSWER` if it returns.
-//!
-//! A thread's name is one byte or more, none of them a space or a colon. So each line can be read
-//! in one way only.
+//! Recordings, as text, of calls that threads made on a channel. The first line opens the channel:
+//! `unbounded`, or `bounded N`. Each further line is an event, in the order of time: `THREAD: CALL`
+//! if a call begins, and `THREAD -> ANSWER` if it returns. A thread's name has no space or colon.
 #![tactic(auto)]
 
 pub mod answers;

@@ -1,4 +1,4 @@
-//! Numbers as they are printed: no sign, and no zero in front.
+//! Reads numbers as they are printed, with no sign and no zero in front.
 ghost use Rattle.std.specs.Prelude.{SomeIff, MatchOption, IfOk, ◌≡◌, ◌==◌, ◌++◌, ℕ, ◌^◌, ◌<◌};
 ghost use Rattle.std.specs.Prelude.{false, List};
 ghost use Rattle.std.specs.List.{All};
@@ -12,7 +12,7 @@ use flume_script::reading::part_at;
 use std::alloc::{AllocError, Allocator};
 use std::str;
 
-#[tactic(auto, using(crate::proofs::Digits::numeral_is_text))]
+#[tactic(auto, using(crate::proofs::DigitLemmas::numeral_is_text))]
 fn value_of(digits: &[u8]) -> Option<u64>
     ensures value { SomeIff result
         (IsNumeral 10 digits.now × (digits_value 10 digits.now < 2 ^ 64))
@@ -35,7 +35,6 @@ pub(crate) fn number_of(text: &[u8]) -> Option<u64>
     value_of(text)
 }
 
-// Numbers with a space before each.
 pub(crate) fn numbers_of<A: Allocator + Copy>(
     alloc: A,
     text: &[u8],
@@ -61,7 +60,6 @@ pub(crate) fn numbers_of<A: Allocator + Copy>(
     Ok(Some(list))
 }
 
-// What is before the first space, and after it.
 fn first_of(numbers: &[u8]) -> (&[u8], Option<&[u8]>)
     ensures parts { numbers.now ≡ result.0.now ++ behind_space result.1 }
     ensures first { All (λ x. (x == 32) ≡ false) result.0.now }

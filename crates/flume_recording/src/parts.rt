@@ -1,17 +1,15 @@
-//! A line in its parts: the name of a thread, and the text of a call or of an answer.
+//! A line in its parts: a thread's name, and the text of a call or of an answer.
 ghost use Rattle.std.specs.Prelude.{MatchOption};
 ghost use Rattle.flume_recording.specs.EventLines.{ArePartsOf, HasNoParts};
 
 use flume_script::reading::part_at;
 
-/// The parts of a line.
 #[derive(Clone, Copy, Drop)]
 pub(crate) enum Parts<'s> {
     Begins { name: &'s [u8], call: &'s [u8] },
     Returns { name: &'s [u8], answer: &'s [u8] },
 }
 
-// The first space of a line is behind the name and a colon, or behind the name.
 pub(crate) fn parts_of(line: &[u8]) -> Option<Parts<'_>>
     ensures value { MatchOption result (HasNoParts line.now) (ArePartsOf line.now) }
 {

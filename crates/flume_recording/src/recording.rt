@@ -19,7 +19,7 @@ pub enum Recording<'s, A: Allocator> {
         /// `None` if unbounded.
         capacity: Option<usize>,
         events: Vec<Event<u64, A>, A>,
-        /// The threads' names, as they appear first: an event has the place of its thread's name.
+        /// By the numbers of the threads.
         names: Vec<&'s [u8], A>,
     },
     Wrong {
@@ -35,7 +35,6 @@ enum Lines<'s, A: Allocator> {
         events: Vec<Event<u64, A>, A>,
         names: Vec<&'s [u8], A>,
     },
-    // This many lines are events, and the next one is none.
     Wrong {
         place: usize,
         fault: Fault,
@@ -71,8 +70,8 @@ fn unopened<'s, A: Allocator>() -> Recording<'s, A>
     }
 }
 
-/// Reads a recording up to its first wrong line. `NoMemory`: the events or the names couldn't be
-/// allocated. Linear in the length of the input, and for each line in the number of threads.
+/// Reads a recording up to its first wrong line, in time linear in its length, and for each line in
+/// the number of threads. `NoMemory`: an allocation failed.
 ///
 ///     read_recording(alloc, b"unbounded\na: len\na -> 0\n")?;
 ///     // Right { capacity: None, names: ["a"], events: [Begins { thread: 0, call: Len },

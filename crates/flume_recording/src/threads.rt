@@ -4,8 +4,7 @@ ghost use Rattle.std.specs.Prelude.{length};
 ghost use Rattle.flume_recording.specs.EventLines.{IsFault, IsName, begins_line, name_of};
 ghost use Rattle.flume_recording.specs.EventLines.{returns_line};
 ghost use Rattle.flume_recording.specs.NextEvents.{IsNextEvent, IsThreadOf, asking_in};
-ghost use Rattle.flume_recording.specs.Recordings.{names_of};
-ghost use Rattle.flume_recording.specs.Recordings.{asks_capacity as asks};
+ghost use Rattle.flume_recording.specs.Recordings.{names_of, asks_capacity as asks};
 
 use crate::answers::answer_of;
 use crate::calls::call_of;
@@ -16,11 +15,11 @@ use flume_concurrent::event::Event;
 use flume_error::error::NoMemory;
 use std::alloc::{AllocError, Allocator};
 
-/// The threads that have appeared so far, in the order of their numbers.
+/// In the order of the threads' numbers.
 #[derive(Drop)]
 pub(crate) struct Threads<'s, A: Allocator> {
     pub(crate) names: Vec<&'s [u8], A>,
-    // Whether the last call that each began asked for the capacity.
+    // Whether the last call of each asked for the capacity.
     pub(crate) asking: Vec<bool, A>,
     ghost as_many: { length names.items ≤ length asking.items },
 }
@@ -72,7 +71,6 @@ impl<'s, A: Allocator + Copy> Threads<'s, A> {
         Ok(place)
     }
 
-    // The event of a line, or why it is none.
     pub(crate) fn read(
         &mut self,
         alloc: A,

@@ -1,5 +1,5 @@
 //! Events, written as text.
-ghost use Rattle.std.specs.Prelude.{IfOk, OnOk, ◌≡◌, ◌++◌};
+ghost use Rattle.std.specs.Prelude.{IfOk, ◌≡◌};
 ghost use Rattle.flume_recording.specs.EventLines.{event_text};
 ghost use Rattle.flume_recording.specs.Recordings.{names_of};
 
@@ -9,9 +9,8 @@ use flume_concurrent::event::Event;
 use flume_error::error::NoMemory;
 use std::alloc::Allocator;
 
-/// The text of an event, without a line feed. `names` are the threads' names, by their numbers; one
-/// that isn't there is left out. `NoMemory`: the text couldn't be allocated.
-///
+/// The text of an event, without a line feed. A thread without a name has an empty one. `NoMemory`:
+/// the text couldn't be allocated.
 /// ```
 /// let event = Event::Begins { thread: 0, call: Call::Send(7) };
 /// write_event(alloc, &[b"a"], &event)?;    // "a: send 7"

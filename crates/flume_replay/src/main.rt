@@ -1,6 +1,5 @@
-//! Replays scripts whose replies were recorded from flume 0.12.0. It prints how many replies agree,
-//! and how many are histories that a correct channel could have produced. It also checks histories
-//! that were written by hand.
+//! Replays scripts whose replies were recorded from flume 0.12.0, and checks these replies and
+//! histories that were written by hand. It prints how many are right.
 #![tactic(auto)]
 
 use flume_core::error::NoMemory;

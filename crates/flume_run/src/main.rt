@@ -68,7 +68,7 @@ fn serve<A: Allocator + Copy, R: Read, W: Write, M: Write>(
         }
         return write_answer(output, answer);
     }
-    // Each case by itself: the prover then knows which of the two is written.
+    // By cases, so that the prover knows which of the two is written.
     match run_script(alloc, &bytes) {
         Ok(script) => {
             say_why(alloc, &bytes, &script, messages);

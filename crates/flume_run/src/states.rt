@@ -1,9 +1,7 @@
 //! The state of a channel after each step of a script.
 //!
 //! A `Chan` shows neither its messages nor its receivers. So for each state a new channel makes the
-//! steps up to there, and is then emptied by further steps: each blocked send takes its message
-//! back, the queue is drained, closing the channel notifies the receivers that wait, and each
-//! receiver withdraws.
+//! steps up to there, and is then emptied by further steps.
 
 use flume_core::chan::Chan;
 use flume_core::error::NoMemory;

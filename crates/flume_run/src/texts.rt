@@ -5,9 +5,9 @@ use flume_core::chan::Chan;
 use flume_core::error::NoMemory;
 use flume_model::entry::{Entry, Mark};
 use flume_model::step::{Kind, Step};
-use flume_script::ScriptOutput;
 use flume_script::reading::{Reading, read_script};
-use flume_script::writing::{write_reply, write_wrong};
+use flume_script::writing::write_reply;
+use flume_script::{ScriptOutput, refuse};
 use std::alloc::Allocator;
 
 // What `run_script` prints, with the state of the channel in a line before the replies and in one
@@ -17,10 +17,7 @@ pub(crate) fn run_with_states<A: Allocator + Copy>(
     input: &[u8],
 ) -> Result<ScriptOutput<A>, NoMemory> {
     match read_script(alloc, input)? {
-        Reading::Wrong { line } => {
-            let text = write_wrong(alloc, line)?;
-            Ok(ScriptOutput { text, status: 2 })
-        }
+        Reading::Wrong { line } => refuse(alloc, line),
         Reading::Right { capacity, steps } => {
             let text = write_run(alloc, capacity, &steps)?;
             Ok(ScriptOutput { text, status: 0 })

@@ -1,5 +1,5 @@
-pub mod ScriptLines
-pub mod ScriptNumbers
-pub mod ScriptWords
-pub mod ScriptSteps
-pub mod ScriptReplies
+pub mod ScriptLineLemmas
+pub mod ScriptNumberLemmas
+pub mod ScriptWordLemmas
+pub mod ScriptStepLemmas
+pub mod ScriptReplyLemmas

@@ -59,41 +59,43 @@ IsStepLine line SenderCount = line ≡ codes "sender_count"
 IsStepLine line ReceiverCount = line ≡ codes "receiver_count"
 IsStepLine line IsDisconnected = line ≡ codes "is_disconnected"
 
--- the lines are an opening line, and then one line for each of these steps
-pub record IsScript (lines : List (List ℕ)) (capacity : Option ℕ) (steps : List (Step ℕ))
-    : Type 0 where
-  pub first : List ℕ
-  pub rest : List (List ℕ)
-  pub lines_are : lines ≡ first ∷ rest
-  pub opens : IsOpeningLine first capacity
-  pub steps_are : AllZip IsStepLine rest steps
-
--- the line is no step
-abbrev pub IsNoStep : List ℕ → Type 0
-IsNoStep line = (step : Step ℕ) → ¬ IsStepLine line step
-
 -- the line opens no channel
 abbrev pub IsNoOpening : List ℕ → Type 0
 IsNoOpening line = (capacity : Option ℕ) → ¬ IsOpeningLine line capacity
 
--- this many of the lines are steps, and the next one isn't
-pub record StepsUpTo (lines : List (List ℕ)) (place : ℕ) : Type 0 where
-  pub before : List (List ℕ)
-  pub steps : List (Step ℕ)
-  pub line : List ℕ
-  pub later : List (List ℕ)
-  pub parts : lines ≡ before ++ line ∷ later
-  pub right : AllZip IsStepLine before steps
-  pub wrong : IsNoStep line
-  pub place_is : length before ≡ place
+-- `IsLine` says what a line after the first may be, as `IsStepLine`
+module _ {X : Type 0} (IsLine : List ℕ → X → Type 0) where
+  -- the lines are an opening line, and then one for each of these
+  pub record IsScript (lines : List (List ℕ)) (capacity : Option ℕ) (steps : List X)
+      : Type 0 where
+    pub first : List ℕ
+    pub rest : List (List ℕ)
+    pub lines_are : lines ≡ first ∷ rest
+    pub opens : IsOpeningLine first capacity
+    pub steps_are : AllZip IsLine rest steps
 
--- the first wrong line has this number, counted from 1; without any line, the first is wrong
-abbrev pub IsFirstWrong : List (List ℕ) → ℕ → Type 0
-IsFirstWrong [] number = number ≡ 1
-IsFirstWrong (first ∷ rest) number =
-    (IsNoOpening first × (number ≡ 1))
-    ⊎ ((capacity : Option ℕ) × IsOpeningLine first capacity
-    × (place : ℕ) × StepsUpTo rest place × (number ≡ place + 2))
+  -- the line is none of these
+  abbrev pub IsNoLine : List ℕ → Type 0
+  IsNoLine line = (step : X) → ¬ IsLine line step
+
+  -- this many of the lines are some, and the next one is none
+  pub record LinesUpTo (lines : List (List ℕ)) (place : ℕ) : Type 0 where
+    pub before : List (List ℕ)
+    pub steps : List X
+    pub line : List ℕ
+    pub later : List (List ℕ)
+    pub parts : lines ≡ before ++ line ∷ later
+    pub right : AllZip IsLine before steps
+    pub wrong : IsNoLine line
+    pub place_is : length before ≡ place
+
+  -- the first wrong line has this number, counted from 1; without any line, it is 1
+  abbrev pub IsFirstWrong : List (List ℕ) → ℕ → Type 0
+  IsFirstWrong [] number = number ≡ 1
+  IsFirstWrong (first ∷ rest) number =
+      (IsNoOpening first × (number ≡ 1))
+      ⊎ ((capacity : Option ℕ) × IsOpeningLine first capacity
+      × (place : ℕ) × LinesUpTo rest place × (number ≡ place + 2))
 
 -- what is printed for a wrong line
 abbrev pub wrong_text : ℕ → List ℕ

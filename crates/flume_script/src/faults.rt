@@ -1,4 +1,4 @@
-//! Why a line of a script is wrong.
+//! Why a line of a script is wrong. `NoMemory`: a text couldn't grow; a part may have been added.
 ghost use Rattle.std.specs.Prelude.{◌≡◌, ◌==◌, false};
 ghost use Rattle.std.specs.List.{All};
 
@@ -6,6 +6,7 @@ use crate::reading::{
     Reading, next_line, number, part_at, read_script, step_with_number, step_without_number,
 };
 use flume_core::error::NoMemory;
+use flume_model::step::Step;
 use std::alloc::Allocator;
 
 /// Why a line is wrong.
@@ -13,23 +14,21 @@ use std::alloc::Allocator;
 pub enum LineFault {
     ByteOrderMark,
     Empty,
-    /// It begins with a space.
+    /// It begins with one.
     Space,
-    /// The first line is neither `unbounded` nor `bounded N`.
     NoOpening,
     NoStep,
     MoreAfterWord,
-    /// It is `recv` without a kind of receiver.
+    /// A `recv` without a kind of receiver.
     NoKind,
     NoNumber,
     NotNumber,
-    /// The number needs more than 64 bits.
+    /// More than 64 bits.
     GreatNumber,
     MoreAfterNumber,
 }
 
 /// What is before the first space of a line, and after it.
-///
 /// ```
 /// first_word(b"poll 2 3");           // (b"poll", b"2 3")
 /// first_word(b"drain");              // (b"drain", b"")
@@ -44,7 +43,6 @@ pub fn first_word(line: &[u8]) -> (&[u8], &[u8])
 }
 
 /// Why a text isn't a number alone.
-///
 /// ```
 /// number_fault(b"");                 // NoNumber
 /// number_fault(b"5x");               // NotNumber
@@ -64,7 +62,6 @@ pub fn number_fault(text: &[u8]) -> LineFault {
 }
 
 /// Why a first line opens no channel.
-///
 /// ```
 /// opening_fault(b"bounded");         // NoNumber
 /// opening_fault(b"unbounded 7");     // MoreAfterWord
@@ -86,7 +83,6 @@ pub fn opening_fault(line: &[u8]) -> LineFault {
 }
 
 /// Why a later line is no step.
-///
 /// ```
 /// step_fault(b"send");               // NoNumber
 /// step_fault(b"len 7");              // MoreAfterWord
@@ -109,8 +105,7 @@ pub fn step_fault(line: &[u8]) -> LineFault {
     }
 }
 
-/// Adds the first hundred bytes, one that isn't printable ASCII as `\x` and two digits. `NoMemory`:
-/// the text couldn't grow, and may hold a part of this.
+/// Adds the first hundred bytes, one that isn't printable ASCII as `\x` and two digits.
 pub fn write_shown<A: Allocator>(text: &mut String<A>, bytes: &[u8]) -> Result<(), NoMemory> {
     for byte in bytes.iter().take(100) {
         match *byte {
@@ -121,7 +116,7 @@ pub fn write_shown<A: Allocator>(text: &mut String<A>, bytes: &[u8]) -> Result<(
     Ok(())
 }
 
-/// Adds why a line is wrong. `NoMemory`: the text couldn't grow, and may hold a part of this.
+/// Adds why a line is wrong.
 pub fn write_line_fault<A: Allocator>(
     text: &mut String<A>,
     line: &[u8],
@@ -157,7 +152,6 @@ fn words_of(fault: LineFault) -> &'static str {
 }
 
 /// The line with this number, counted from 1; empty if there is none.
-///
 /// ```
 /// line_at(b"unbounded\nlen\n", 2);   // b"len"
 /// ```
@@ -173,7 +167,7 @@ pub fn line_at(input: &[u8], number: usize) -> &[u8] {
     found
 }
 
-/// Adds which line is wrong. `NoMemory`: the text couldn't grow, and may hold a part of this.
+/// Adds which line is wrong.
 pub fn write_place<A: Allocator>(
     text: &mut String<A>,
     number: usize,
@@ -185,9 +179,7 @@ pub fn write_place<A: Allocator>(
     Ok(())
 }
 
-/// Which line of a script is the first wrong one, and why; empty if none is wrong. `NoMemory`: an
-/// allocation failed.
-///
+/// Which line of a script is the first wrong one, and why; empty if none is.
 /// ```
 /// explain_script(alloc, b"unbounded\nlen 7\n")?;
 /// // "line 2 is 'len 7': there is more after 'len'\n"
@@ -198,7 +190,7 @@ pub fn explain_script<A: Allocator + Copy>(alloc: A, input: &[u8]) -> Result<Str
         text.push_str("the input is empty\n")?;
         return Ok(text);
     }
-    let Reading::Wrong { line: number } = read_script(alloc, input)? else {
+    let Reading::Wrong { line: number } = read_script::<Step<u64>, A>(alloc, input)? else {
         return Ok(text);
     };
     let line = line_at(input, number);

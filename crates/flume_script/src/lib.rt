@@ -1,11 +1,8 @@
-//! Scripts: the steps of a channel as text. `run_script` makes them on a new channel, and gives a
-//! text with a line for each reply; `./play` of the repository prints it.
-//!
-//! `reading` parses the lines, `faults` says why one is wrong, `writing` has the texts of replies.
+//! Scripts: the steps of a channel as text. `./play` of the repository runs them.
 #![tactic(auto)]
 
 ghost use Rattle.flume_script.specs.Program.{Answers, Prints};
-ghost use Rattle.flume_script.specs.Script.{IsScript, wrong_text};
+ghost use Rattle.flume_script.specs.Script.{IsScript, IsStepLine, wrong_text};
 ghost use Rattle.std.specs.Prelude.{IfOk, ◌≡◌, ℕ, List};
 ghost use Rattle.std.specs.Str.Lines.{lines};
 
@@ -20,7 +17,7 @@ use flume_core::run::run;
 use flume_model::step::Step;
 use reading::{Reading, read_script};
 use std::alloc::{Allocator, Global};
-use writing::{write_replies, write_wrong};
+use writing::write_replies;
 
 /// What a program prints on standard output, and its exit status.
 #[derive(Drop)]
@@ -29,11 +26,9 @@ pub struct ScriptOutput<A: Allocator = Global> {
     pub status: u8,
 }
 
-/// Runs a script on a new channel. The first line opens the channel, each further line is a step,
-/// and each reply is a line of the text; the status is 0. If a line is wrong, no step is done: the
-/// text names the first wrong line, and the status is 2. `NoMemory`: an allocation failed. Linear
-/// in the length of the input.
-///
+/// Runs a script on a new channel: each reply is a line of the text, and the status is 0. If a line
+/// is wrong, no step is done: the text names the first wrong line, and the status is 2. `NoMemory`:
+/// an allocation failed. Linear in the length of the input.
 /// ```
 /// let script = run_script(alloc, b"unbounded\ntry_send 42\ntry_recv\n")?;
 /// script.text;                       // "sent\ngot 42\n"
@@ -48,12 +43,17 @@ pub fn run_script<A: Allocator + Copy>(alloc: A, input: &[u8]) -> Result<ScriptO
     }
 }
 
-fn refuse<A: Allocator + Copy>(alloc: A, line: usize) -> Result<ScriptOutput<A>, NoMemory>
+/// The output for a script whose first wrong line this is. `NoMemory`: an allocation failed.
+pub fn refuse<A: Allocator + Copy>(alloc: A, line: usize) -> Result<ScriptOutput<A>, NoMemory>
     ensures text { IfOk result (λ script. script.text.items ≡ wrong_text line) }
     ensures status { IfOk result (λ script. script.status ≡ 2) }
 {
-    let text = write_wrong(alloc, line)?;
-    Ok(ScriptOutput { text, status: 2 })
+    let mut text = String::new(alloc);
+    writeln!(text, "line {line}: not a step")?;
+    Ok(ScriptOutput {
+        text: text.into_bytes(),
+        status: 2,
+    })
 }
 
 fn answer<A: Allocator + Copy>(
@@ -62,7 +62,7 @@ fn answer<A: Allocator + Copy>(
     steps: Vec<Step<u64>, A>,
 ) -> Result<ScriptOutput<A>, NoMemory>
     ensures answers { IfOk result (λ script. (input : List ℕ)
-        → IsScript (lines input) capacity steps.items
+        → IsScript IsStepLine (lines input) capacity steps.items
         → Answers A input script.text.items script.status) }
 {
     let mut chan = Chan::new(alloc, capacity);

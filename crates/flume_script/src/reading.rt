@@ -1,7 +1,7 @@
 //! Reads the lines of a script to steps.
 ghost use Rattle.flume_script.specs.Reading.{IsReading};
 ghost use Rattle.flume_script.specs.Script.{IsWordWithNumber, IsNoOpening, IsOpeningLine};
-ghost use Rattle.flume_script.specs.Script.{IsNoStep, IsStepLine, StepsUpTo};
+ghost use Rattle.flume_script.specs.Script.{IsNoLine, IsStepLine, LinesUpTo};
 ghost use Rattle.std.specs.List.{All, AllZip};
 ghost use Rattle.std.specs.Prelude.{IfErr, IfNone, IfOk, IfSome, IsTrue, MatchOption, SomeIff};
 ghost use Rattle.std.specs.Prelude.{◌≡◌, ◌==◌, ℕ, ◌^◌, ◌<◌, ◌↔◌, List, [], ◌∷◌, ◌++◌};
@@ -16,11 +16,11 @@ use std::str;
 
 /// A script, or its first wrong line.
 #[derive(Drop)]
-pub enum Reading<A: Allocator> {
+pub enum Reading<L, A: Allocator> {
     Right {
         /// `None` if unbounded.
         capacity: Option<usize>,
-        steps: Vec<Step<u64>, A>,
+        steps: Vec<L, A>,
     },
     Wrong {
         /// Counted from 1.
@@ -28,8 +28,24 @@ pub enum Reading<A: Allocator> {
     },
 }
 
+/// What the lines after the first are: steps, or steps with more.
+pub trait Line<'s>: Sized {
+    ghost is_line: { List ℕ → Self → Type 0 };
+
+    /// What the line is, if it is one of them.
+    fn read(line: &'s [u8]) -> Option<Self>
+        ensures value { MatchOption result (IsNoLine is_line line.now) (is_line line.now) };
+}
+
+impl Line<'_> for Step<u64> {
+    ghost is_line = { IsStepLine };
+
+    fn read(line: &[u8]) -> Option<Self> {
+        step_of(line)
+    }
+}
+
 /// What is before the first such byte, and after it.
-///
 /// ```
 /// part_at(b"poll 2", b' ');          // Some((b"poll", b"2"))
 /// part_at(b"drain", b' ');           // None
@@ -52,14 +68,12 @@ fn without_return(line: &[u8]) -> &[u8]
     }
 }
 
-/// The first line, and what follows it. A line ends at a line feed, with or without a carriage
-/// return before it, or at the end.
-///
+/// The first line, without its line feed and one carriage return before it, and what follows it.
 /// ```
 /// next_line(b"len\ndrain\n");        // Some((b"len", b"drain\n"))
 /// next_line(b"drain");               // Some((b"drain", b""))
 /// ```
-#[tactic(auto, using(crate::proofs::ScriptLines::next_lines))]
+#[tactic(auto, using(crate::proofs::ScriptLineLemmas::next_lines))]
 pub fn next_line(rest: &[u8]) -> Option<(&[u8], &[u8])>
     ensures none { IfNone result (rest.now ≡ []) }
     ensures first { IfSome result (λ r. lines rest.now ≡ r.0.now ∷ lines r.1.now) }
@@ -73,12 +87,11 @@ pub fn next_line(rest: &[u8]) -> Option<(&[u8], &[u8])>
 }
 
 /// The number that decimal digits are, if it fits 64 bits.
-///
 /// ```
 /// number(b"007");                    // Some(7)
 /// number(b"");                       // None
 /// ```
-#[tactic(auto, using(crate::proofs::ScriptNumbers::numeral_is_text))]
+#[tactic(auto, using(crate::proofs::ScriptNumberLemmas::numeral_is_text))]
 pub fn number(digits: &[u8]) -> Option<u64>
     ensures value { SomeIff result
         (IsNumeral 10 digits.now × (digits_value 10 digits.now < 2 ^ 64))
@@ -105,10 +118,9 @@ fn is_text(line: &[u8], word: &[u8]) -> bool
     line == word
 }
 
-// The step of a word that takes no number.
 pub(crate) fn step_without_number(word: &[u8]) -> Option<Step<u64>>
     requires no_space { All (λ x. (x == 32) ≡ false) word.now }
-    ensures value { MatchOption result (IsNoStep word.now) (IsStepLine word.now) }
+    ensures value { MatchOption result (IsNoLine IsStepLine word.now) (IsStepLine word.now) }
 {
     match word {
         _ if is_text(word, b"try_recv") => Some(Step::TryRecv),
@@ -128,11 +140,10 @@ pub(crate) fn step_without_number(word: &[u8]) -> Option<Step<u64>>
     }
 }
 
-// The step of a word that takes a number.
 pub(crate) fn step_with_number(word: &[u8], number: u64) -> Option<Step<u64>>
     requires no_space { All (λ x. (x == 32) ≡ false) word.now }
     ensures value { (digits : List ℕ) → IsNumeral 10 digits → digits_value 10 digits ≡ number →
-        MatchOption result (IsNoStep (word.now ++ 32 ∷ digits))
+        MatchOption result (IsNoLine IsStepLine (word.now ++ 32 ∷ digits))
         (IsStepLine (word.now ++ 32 ∷ digits)) }
 {
     match word {
@@ -148,7 +159,7 @@ pub(crate) fn step_with_number(word: &[u8], number: u64) -> Option<Step<u64>>
 }
 
 fn recv_step(kind: &[u8]) -> Option<Step<u64>>
-    ensures value { MatchOption result (IsNoStep (codes "recv " ++ kind.now))
+    ensures value { MatchOption result (IsNoLine IsStepLine (codes "recv " ++ kind.now))
         (IsStepLine (codes "recv " ++ kind.now)) }
 {
     match kind {
@@ -160,14 +171,13 @@ fn recv_step(kind: &[u8]) -> Option<Step<u64>>
     }
 }
 
-/// The step that a line is.
-///
+/// The step that a line is, if any.
 /// ```
 /// step_of(b"poll 2");                // Some(Poll(2))
 /// step_of(b"poll");                  // None
 /// ```
 pub fn step_of(line: &[u8]) -> Option<Step<u64>>
-    ensures value { MatchOption result (IsNoStep line.now) (IsStepLine line.now) }
+    ensures value { MatchOption result (IsNoLine IsStepLine line.now) (IsStepLine line.now) }
 {
     match part_at(line, b' ') {
         None => step_without_number(line),
@@ -176,8 +186,7 @@ pub fn step_of(line: &[u8]) -> Option<Step<u64>>
     }
 }
 
-/// The capacity at which a line opens a channel.
-///
+/// The capacity at which a line opens a channel, if it does.
 /// ```
 /// opening_of(b"bounded 7");          // Some(Some(7))
 /// opening_of(b"unbounded");          // Some(None)
@@ -193,18 +202,18 @@ pub fn opening_of(line: &[u8]) -> Option<Option<usize>>
     Some(Some(capacity as usize))
 }
 
-// The steps, or how many there are before the first line that is none.
-fn read_steps<A: Allocator + Copy>(
+// `Err`: how many there are before the first wrong line.
+fn read_lines<'s, L: Line<'s> + Drop, A: Allocator + Copy>(
     alloc: A,
-    mut rest: &[u8],
-) -> Result<Result<Vec<Step<u64>, A>, usize>, NoMemory>
-    ensures right { IfOk result (λ r. IfOk r (λ s. AllZip IsStepLine (lines rest.now) s.items)) }
-    ensures wrong { IfOk result (λ r. IfErr r (λ place. StepsUpTo (lines rest.now) place)) }
+    mut rest: &'s [u8],
+) -> Result<Result<Vec<L, A>, usize>, NoMemory>
+    ensures right { IfOk result (λ r. IfOk r (λ s. AllZip L.is_line (lines rest.now) s.items)) }
+    ensures wrong { IfOk result (λ r. IfErr r (LinesUpTo L.is_line (lines rest.now))) }
     ensures within { IfOk result (λ r. IfErr r (λ place. place < length rest.now)) }
 {
     let mut steps = Vec::new(alloc);
     while let Some((line, later)) = next_line(rest) {
-        let Some(step) = step_of(line) else {
+        let Some(step) = L::read(line) else {
             return Ok(Err(steps.len()));
         };
         steps.push(step).map_err(AllocError::from)?;
@@ -213,15 +222,17 @@ fn read_steps<A: Allocator + Copy>(
     Ok(Ok(steps))
 }
 
-/// Reads a script up to its first wrong line. `NoMemory`: the steps couldn't be allocated. Linear
-/// in the length of the input.
-///
+/// Reads a script up to its first wrong line. `NoMemory`: an allocation failed. Linear.
 /// ```
-/// read_script(alloc, b"bounded 7\nlen\n")?;      // Right { capacity: Some(7), steps: [Len] }
-/// read_script(alloc, b"bounded 7\nlen\n\n")?;    // Wrong { line: 3 }
+/// read_script::<Step<u64>, _>(alloc, b"bounded 7\nlen\n")?;
+/// // Right { capacity: Some(7), steps: [Len] }
+/// read_script::<Step<u64>, _>(alloc, b"bounded 7\nlen\n\n")?;    // Wrong { line: 3 }
 /// ```
-pub fn read_script<A: Allocator + Copy>(alloc: A, input: &[u8]) -> Result<Reading<A>, NoMemory>
-    ensures value { IfOk result (λ reading. IsReading input.now reading) }
+pub fn read_script<'s, L: Line<'s> + Drop, A: Allocator + Copy>(
+    alloc: A,
+    input: &'s [u8],
+) -> Result<Reading<L, A>, NoMemory>
+    ensures value { IfOk result (λ reading. IsReading L.is_line input.now reading) }
 {
     let Some((first, rest)) = next_line(input) else {
         return Ok(Reading::Wrong { line: 1 });
@@ -229,7 +240,7 @@ pub fn read_script<A: Allocator + Copy>(alloc: A, input: &[u8]) -> Result<Readin
     let Some(capacity) = opening_of(first) else {
         return Ok(Reading::Wrong { line: 1 });
     };
-    match read_steps(alloc, rest)? {
+    match read_lines(alloc, rest)? {
         Ok(steps) => Ok(Reading::Right { capacity, steps }),
         Err(place) => Ok(Reading::Wrong { line: place + 2 }),
     }

@@ -12,16 +12,15 @@ const OUT_OF_MEMORY: &[u8] = b"out of memory\n";
 /// The exit status if the input can't be read, or the output can't be written.
 pub const FAULT: u8 = 4;
 
-/// Why there is no input.
+/// Why the input isn't read.
 #[derive(Clone, Copy, Debug, Drop)]
 pub enum Unread {
     NoMemory,
-    /// Any error but out of memory.
+    /// Any other error.
     Fault,
 }
 
 /// Reads the input to its end.
-///
 /// ```
 /// let bytes = read_all(alloc, &mut &b"unbounded\n"[..]);
 /// assert!(rt; bytes.is_ok());
@@ -40,9 +39,8 @@ pub fn read_all<A: Allocator + Copy, R: Read>(alloc: A, input: &mut R) -> Result
     }
 }
 
-/// Writes a program's text, and gives its exit status: that of the answer; 3, with the text `out of
-/// memory`, if the answer is `NoMemory`; `FAULT` if the text can't be written.
-///
+/// Writes a program's text, and returns its exit status: the answer's; 3 for `NoMemory`, whose text
+/// is `out of memory`; `FAULT` if the text can't be written.
 /// ```
 /// let mut output = Vec::new(alloc);
 /// let status = write_answer(&mut output, run_script(alloc, b"unbounded\nlen\n"));

@@ -1,5 +1,4 @@
 //! The texts of replies.
-ghost use Rattle.flume_script.specs.Script.{wrong_text};
 ghost use Rattle.flume_script.specs.ReplyTexts.{gone_text, spaced, reply_text, reply_texts};
 ghost use Rattle.flume_model.specs.declared.step.Reply.TheVariants.{Capacity, Returned, Sent};
 ghost use Rattle.flume_model.specs.declared.step.Reply.TheVariants.{Truth};
@@ -110,9 +109,7 @@ fn write_capacity<A: Allocator>(
     Ok(())
 }
 
-/// Adds the text of a reply, and a line feed. `NoMemory`: the text couldn't grow, and may hold a
-/// part of this.
-///
+/// Adds the text of a reply, and a line feed. `NoMemory`: it couldn't grow; a part may be added.
 /// ```
 /// let mut text = String::new(alloc);
 /// write_reply(&mut text, &Reply::Got(12))?;
@@ -152,13 +149,11 @@ pub fn write_reply<A: Allocator>(
     })
 }
 
-/// The texts of the replies, each on a line. `NoMemory`: the text couldn't grow. Linear in the
-/// length of the text.
-///
+/// The texts of the replies, each on a line. `NoMemory`: an allocation failed. Linear.
 /// ```
 /// write_replies(alloc, &[Reply::Got(12), Reply::Empty])?;    // "got 12\nempty\n"
 /// ```
-#[tactic(auto, using(crate::proofs::ScriptReplies::reply_texts_more))]
+#[tactic(auto, using(crate::proofs::ScriptReplyLemmas::reply_texts_more))]
 pub fn write_replies<A: Allocator + Copy>(
     alloc: A,
     replies: &[Reply<u64, A>],
@@ -169,14 +164,5 @@ pub fn write_replies<A: Allocator + Copy>(
     for reply in replies {
         write_reply(&mut text, reply)?;
     }
-    Ok(text.into_bytes())
-}
-
-/// The text of `run_script` if this line is the first wrong one. `NoMemory`: it couldn't grow.
-pub fn write_wrong<A: Allocator + Copy>(alloc: A, line: usize) -> Result<Vec<u8, A>, NoMemory>
-    ensures value { IfOk result (λ bytes. bytes.items ≡ wrong_text line) }
-{
-    let mut text = String::new(alloc);
-    writeln!(text, "line {line}: not a step")?;
     Ok(text.into_bytes())
 }

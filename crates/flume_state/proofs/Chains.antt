@@ -1,8 +1,8 @@
 -- What the proofs here cite of chains, passed on from one place. Declares nothing.
-pub use Rattle.flume_chain.proofs.ChainLaws.{changed_at-append, edited_missing, none_placed, without_place-append, places-append, without_missing, length-put_before, length-without_place, moved_back_missing, moved_back_some}
-pub use Rattle.flume_chain.proofs.Rings.{once_same, once_back, with_other, times-append, once_none, with_same, once_more}
-pub use Rattle.flume_chain.proofs.Tables.{item, found_some, without_at, found_none, after_at, found_put, without_none, put_before_at, Split}
-pub use Rattle.flume_chain.proofs.Writes.{length-changed_at, places-changed_at, found-changed_at}
-pub use Rattle.flume_chain.specs.ChainState.{ChainItem, times, places, found, without_place, first_place, place_after, once, ChainState, put_before, behind_first, first_element, moved_back}
+pub use Rattle.flume_chain.proofs.ChainLemmas.{changed_at-append, edited_missing, none_placed, without_place-append, places-append, without_missing, length-put_before, length-without_place, moved_back_missing, moved_back_some}
+pub use Rattle.flume_chain.proofs.RingLemmas.{once_same, once_back, with_other, times-append, once_none, with_same, once_more}
+pub use Rattle.flume_chain.proofs.TableLemmas.{item, found_some, without_at, found_none, after_at, found_put, without_none, put_before_at, Split}
+pub use Rattle.flume_chain.proofs.WriteLemmas.{length-changed_at, places-changed_at, found-changed_at}
+pub use Rattle.flume_chain.specs.ChainState.{ChainItem, times, places, found, without_place, first_place, place_after, once, ChainState, put_before, put_before_or_last, behind_first, first_element, moved_back}
 pub use Rattle.flume_chain.specs.ChangedAt.{with_value_at, changed_at, with_label_at}
 pub use Rattle.flume_chain.specs.Links.{with_new_value, with_new_label}

@@ -3,7 +3,7 @@ use Rattle.std.specs.Prelude.{⊤, OnOk, OnErr, Result, Ok, Err}
 use Rattle.std.proofs.Common.{◌≡◌, ◌≢◌, ℕ, Option, Some, None, refl, sym, ◌∙◌}
 use Rattle.std.specs.FinMap.{get, insert, remove}
 use Rattle.flume_state.specs.layout.Places.{PlaceMap, with_lone, IsApart}
-use Rattle.flume_state.proofs.MapLaws.{get-insert_same, get-insert_other, get-remove_other, remove-insert, lone_again, lone_insert, lone_remove}
+use Rattle.flume_state.proofs.MapLemmas.{get-insert_same, get-insert_other, get-remove_other, remove-insert, lone_insert, lone_remove}
 
 -- the ticket isn't that of the lone one
 abbrev pub IsAway : Option (ℕ × ℕ) → ℕ → Type 0
@@ -58,17 +58,6 @@ here_remove one n m all t apart is same view =
     let none : get m n.0 ≡ None = rw is at apart in
     rw (sym view) (rw is (rw (sym same) (sym (remove-insert m n.0 n.1 none))))
 
--- the lone one is replaced
-pub here_insert : (one : Option (ℕ × ℕ)) (n : ℕ × ℕ) (m all : PlaceMap) (t p : ℕ)
-    → one ≡ Some n → n.0 ≡ t → with_lone one m ≡ all → insert m t p ≡ insert all t p
-here_insert one n m all t p is same view =
-    rw (sym view) (rw is (rw (sym same) (lone_again m n.0 n.1 p)))
-
--- the others don't have the ticket if it is the lone one's
-pub here_absent : (one : Option (ℕ × ℕ)) (n : ℕ × ℕ) (m : PlaceMap) (t : ℕ) → IsApart one m → one ≡ Some n
-    → n.0 ≡ t → get m t ≡ None
-here_absent one n m t apart is same = let none : get m n.0 ≡ None = rw is at apart in rw (sym same) none
-
 -- if there is no lone one the others are all
 pub none_view : (one : Option (ℕ × ℕ)) (m all : PlaceMap) → one ≡ None → with_lone one m ≡ all → m ≡ all
 none_view one m all is view = rw (sym view) (rw is refl)
@@ -86,8 +75,8 @@ module _ {E : Type 0} where
   insert_ok one m n all t p (Ok done) away view ok = rw (sym view, ok) (away_insert one m t p away)
   insert_ok one m n all t p (Err e) away view ok = ok
 
-  -- its ticket had no place if it wasn't
+  -- its ticket had no place if it was
   pub insert_absent : (one : Option (ℕ × ℕ)) (m all : PlaceMap) (t : ℕ) (r : Result (Unit {0}) E)
-      → IsAway one t → with_lone one m ≡ all → OnErr r (get m t ≡ None) → OnErr r (get all t ≡ None)
-  insert_absent one m all t (Ok done) away view absent = absent
-  insert_absent one m all t (Err e) away view absent = rw (sym view) (away_get one m t away ∙ absent)
+      → IsAway one t → with_lone one m ≡ all → OnOk r (get m t ≡ None) → OnOk r (get all t ≡ None)
+  insert_absent one m all t (Ok done) away view absent = rw (sym view) (away_get one m t away ∙ absent)
+  insert_absent one m all t (Err e) away view absent = absent

@@ -1,9 +1,8 @@
 -- Elements in order, each place of one at most: one among others, and what is read and written there.
 use Rattle.std.proofs.Common.{◌≡◌, ◌≢◌, ℕ, List, [], ◌∷◌, ◌++◌, Option, Some, sym, ap, subst, ◌∙◌, arith}
 use Rattle.std.proofs.lemmas.List.{map-append, append-nil}
-use Rattle.flume_state.proofs.Chains.{once, times, ChainItem, places, found, without_place, first_place, place_after, times-append, once_same, changed_at, without_at, put_before_at, after_at}
-use Rattle.flume_state.specs.layout.WithTicket.{put_before_or_last}
-use Rattle.flume_state.proofs.EntryParts.{Apart, alone, edited_at, seat_found}
+use Rattle.flume_state.proofs.Chains.{once, times, ChainItem, places, found, without_place, first_place, place_after, times-append, once_same, changed_at, without_at, put_before_at, after_at, put_before_or_last}
+use Rattle.flume_state.proofs.EntryPartLemmas.{Apart, alone, edited_at, seat_found}
 
 module _ {E : Type 0} where
   -- an element is found at its place

@@ -1,12 +1,13 @@
 -- How a `HashMap` from tickets is seen as a finite map, and what a table that isn't made has.
-use Rattle.std.proofs.Common.{◌≡◌, ◌↔◌, ℕ, Bool, true, cond, nat_eq, List, [], ◌∷◌, length, Option, Some, None, refl, sym, ap, ◌∙◌, IsTrue}
+use Rattle.std.proofs.Common.{◌≡◌, ◌↔◌, ℕ, Bool, true, cond, nat_eq, List, [], ◌∷◌, length, Option, Some, None, Result, Ok, Err, OnOk, OnErr, refl, sym, ap, ◌∙◌, IsTrue}
 use Rattle.std.specs.HashMap as table
 use Rattle.std.specs.HashMap.{HashMap, hash_map_len}
 use Rattle.std.specs.Cmp.{nat_cmp_total, eq_by_cmp_equiv, unsigned_tied}
 use Rattle.std.specs.FinMap.{FinMap, empty, from_entries, find, get, insert, remove, get-empty, get-insert, get-remove, get-from_entries}
 use Rattle.std.specs.Map.{lookup}
 use Rattle.std.specs.Ordering.{nat_cmp, eq_by_cmp}
-use Rattle.flume_state.proofs.SendsLaws.{same, remove_absent}
+use Rattle.flume_state.proofs.SendMapLemmas.{same, remove_absent}
+use Rattle.flume_state.proofs.MapLemmas.{lone_again, insert_again}
 
 -- the finite map of some entries
 abbrev pub seen : {X : Type 0} → List (ℕ × X) → FinMap nat_cmp X
@@ -65,6 +66,17 @@ module _ {X S : Type 0} where
       → table.Updates nat_eq m n k None → seen n.entries ≡ remove s k
   removed m n s k is u =
       same _ _ (λ q. updated m n k None u q ∙ sym (get-remove nat_cmp_total _ k q)) ∙ ap (λ t. remove t k) is
+
+  -- a value written over another, and that put back, leave its finite map, since no new key comes
+  pub put_back : {Y Z : Type 0} (r : Result Y Z) (m n o : HashMap ℕ X S) (k : ℕ) (v w : X) → table.get nat_eq m k ≡ Some w
+      → table.Updates nat_eq m n k (Some v) → OnOk r (table.Updates nat_eq n o k (Some w)) → OnErr r (table.get nat_eq n k ≡ None)
+      → seen o.entries ≡ seen m.entries
+  put_back (Ok done) m n o k v w is u back absent =
+      inserted n o _ k w (inserted m n _ k v refl u) back ∙ sym (lone_again (seen m.entries) k v w)
+      ∙ insert_again (seen m.entries) k w (get_of_table m _ refl k ∙ is)
+  put_back (Err e) m n o k v w is u back absent =
+      let none : Some v ≡ None = sym u.1 ∙ absent in
+      absurd (let no : ⊥ = cc in no)
 
 -- what an insertion into the table needs
 pub ruleset inserts = (inserted, get_of_table)

@@ -2,11 +2,12 @@
 use Rattle.std.proofs.Common.{◌≡◌, ◌≢◌, ℕ, ◌+◌, ◌≤◌, ◌==◌, Bool, true, false, cond, if◌then◌else◌, List, [], ◌∷◌, ◌++◌, map, Option, Some, None, option_map, refl, sym, ap, subst, ◌∙◌, arith, ⊎_elim, inl, inr, append-nil, nat_cmp}
 use Rattle.std.proofs.lemmas.Bool.{cases_eq, cases_Bool, eq-eqb, ne_eqb}
 use Rattle.std.specs.FinMap.{empty, get, insert, remove, get-empty}
-use Rattle.flume_state.proofs.Chains.{ChainItem, once, times, places, found, without_place, put_before, once_same, once_none, once_more, item, without_at}
-use Rattle.flume_state.proofs.EntryParts.{Apart, seat}
-use Rattle.flume_state.specs.layout.WithTicket.{WithTicket, tickets, place_of, put_before_or_last, Agrees}
+use Rattle.flume_state.proofs.Chains.{ChainItem, once, times, places, found, without_place, put_before, once_same, once_none, once_more, item, without_at, put_before_or_last, none_placed}
+use Rattle.flume_state.proofs.EntryPartLemmas.{Apart, seat}
+use Rattle.flume_state.proofs.PlacedLemmas.{found_here, without_here}
+use Rattle.flume_state.specs.layout.WithTicket.{WithTicket, tickets, place_of, Agrees}
 use Rattle.flume_state.specs.layout.Places.{PlaceMap}
-use Rattle.flume_state.proofs.SendsLaws.{get-insert_same, get-insert_other, get-remove_same, get-remove_other}
+use Rattle.flume_state.proofs.SendMapLemmas.{get-insert_same, get-insert_other, get-remove_same, get-remove_other}
 
 -- two that differ are not the same once
 pub once_other : (a b : ℕ) → a ≢ b → once a b ≡ 0
@@ -94,6 +95,14 @@ module _ {E : Type 0} (items rest : List (ChainItem (WithTicket E))) (x : ChainI
       let most = once_more (λ j. times j (places rest)) x.place k fresh (apart k) in
       omega arith
 
+  -- an element that is put in at a new place is found there, and without it the others are left
+  undone : times x.place (places rest) ≡ 0 → Apart rest → (found items x.place ≡ Some x.element) × (without_place items x.place ≡ rest)
+  undone fresh apart =
+      let split = subst (λ l. Apart l) at.whole (put_apart fresh apart) in (
+        ap (λ l. found l x.place) at.whole ∙ found_here at.before at.after x split,
+        ap (λ l. without_place l x.place) at.whole ∙ without_here at.before at.after x split ∙ sym at.others,
+      )
+
   -- once an element is taken out and its ticket removed, the map is that of the others
   pub ticketed_out : (t : ℕ) → x.element.label ≡ t → Agrees items m → Agrees rest (remove m t)
   ticketed_out t has a = record {
@@ -150,6 +159,13 @@ module _ {E : Type 0} where
   pub put_amid : (items : List (ChainItem (WithTicket E))) (next : Option ℕ) (x : ChainItem (WithTicket E)) → Amid (put_before_or_last items next x) items x
   put_amid items None x = record { before = items; after = []; whole = refl; others = sym (append-nil items) }
   put_amid items (Some k) x = put_before_amid items k x
+
+  -- one that is put at a new place is found there, and without it the others are left
+  pub put_undone : (items : List (ChainItem (WithTicket E))) (next : Option ℕ) (x : ChainItem (WithTicket E)) → Apart items
+      → found items x.place ≡ None
+      → (found (put_before_or_last items next x) x.place ≡ Some x.element) × (without_place (put_before_or_last items next x) x.place ≡ items)
+  put_undone items next x apart fresh =
+      undone (put_before_or_last items next x) items x empty (put_amid items next x) (none_placed items x.place fresh) apart
 
   -- those without a place are all but the element found there, if each place is of one
   pub without_amid : (items : List (ChainItem (WithTicket E))) (k : ℕ) (e : WithTicket E) → Apart items → found items k ≡ Some e

@@ -9,8 +9,8 @@ use Rattle.flume_model.specs.declared.step.Kind.{Kind}
 use Rattle.flume_state.specs.Messages.{Blocked}
 use Rattle.flume_state.specs.Notices.{due_now}
 use Rattle.flume_state.specs.Sends.{SendMap, changed, accepted_now, noticed_send}
-use Rattle.flume_model.specs.Entries.{all_woken, entry_of, without_ticket, round_for, round_for_fills}
-use Rattle.flume_model.specs.Entries.{passes_on, leave_fills, waiting_count}
+use Rattle.flume_model.specs.Entries.{all_woken, entry_of, without_ticket, round_for}
+use Rattle.flume_model.specs.Entries.{round_for_fills, passes_on, leave_fills, waiting_count}
 use Rattle.flume_state.specs.Receivers.{EntryList, new_receiver, after_fill}
 use Rattle.flume_state.specs.State.{State, with_nothing_left}
 

@@ -1,5 +1,4 @@
 -- For every contract: what becomes of the notice that a blocked send or a parked receiver left.
--- What is said of both has two names, as `NoDueSend` and `NoDueReceiver`.
 use Rattle.std.specs.Prelude.{true, false, Option, Some, None}
 use Rattle.flume_state.specs.declared.notice.Notice.{Notice}
 

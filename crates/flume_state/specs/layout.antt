@@ -1,5 +1,4 @@
--- How the lists of a channel's state lie in their chains. No contract above this crate names one of
--- these definitions; the heads of the files name those in a contract's view of a channel.
+-- How the lists of a channel's state lie in their chains. No contract above this crate names these.
 pub mod TicketHash
 pub mod Places
 pub mod WithTicket

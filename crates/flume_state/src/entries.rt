@@ -19,20 +19,19 @@ use std::alloc::{AllocError, Allocator};
 use std::marker::Model;
 use std::mem;
 
-/// The state of a parked receiver, as far as it decides how it is answered.
+/// The state of a parked receiver, as far as it decides how the receiver is answered.
 #[derive(Clone, Copy, Drop)]
 pub enum ReceiverStatus {
     Filled,
     BlockWaiting,
     BlockWoken,
-    /// It is of another kind, and waits.
+    /// This and `Woken` are of another kind.
     Waiting,
-    /// It is of another kind, and was woken.
     Woken,
 }
 
 #[derive(Drop)]
-struct Parked<T, S> {
+struct ParkedReceiver<T, S> {
     kind: Kind,
     mark: Mark<T>,
     notice: Notice<S>,
@@ -43,7 +42,7 @@ struct Parked<T, S> {
 pub struct Entries<T, S, A: Allocator> {
     // First those that neither wait nor are due, then those that are due, then those that wait: so
     // a wake round meets only those that it wakes.
-    chain: TicketChain<Parked<T, S>, A>,
+    chain: TicketChain<ParkedReceiver<T, S>, A>,
     // The place of the first that is due or waits.
     due: Option<u32>,
     waits: Option<u32>,
@@ -78,8 +77,8 @@ fn message_in<T: Drop>(mark: Mark<T>) -> Option<T>
     }
 }
 
-impl<T: Drop, S: Drop> Parked<T, S> {
-    // A filled one stays as it is. Answers whether it was woken.
+impl<T: Drop, S: Drop> ParkedReceiver<T, S> {
+    // Answers whether it was woken.
     fn ask_again(&mut self, signal: Option<S>) -> bool
         ensures asked { self.new ≡ after_asking self.old.mark signal self.old }
         ensures woken { result ≡ is_woken self.old.mark }
@@ -98,7 +97,6 @@ impl<T: Drop, S: Drop> Parked<T, S> {
     }
 }
 
-// A boundary, once the element at a place, with `next` behind it, has left.
 #[inline(always)]
 fn boundary_without(boundary: Option<u32>, place: u32, next: Option<u32>) -> Option<u32>
     ensures boundary { result ≡ boundary_without boundary place next }
@@ -116,9 +114,9 @@ impl<T, S, A: Allocator> Model for Entries<T, S, A> {
 
     ghost Value = { EntryList T S };
 
-    ghost view = { λ s. entries_in s.chain.items };
+    ghost view = { λ s. entries_in s.chain };
 
-    ghost invariant = { λ s. EntryLayout s.chain.items s.due s.waits s.waiting };
+    ghost invariant = { λ s. EntryLayout s.chain s.due s.waits s.waiting };
 }
 
 impl<T: Drop, S: Drop, A: Allocator + Copy> Entries<T, S, A> {
@@ -159,15 +157,15 @@ impl<T: Drop, S: Drop, A: Allocator + Copy> Entries<T, S, A> {
         self.waiting
     }
 
-    /// Parks a receiver under this ticket, behind all others; it isn't due. If memory runs out, or
-    /// a receiver is parked under the ticket already, nothing changes.
+    /// Parks a receiver under this ticket, behind all others. If memory runs out, or a receiver is
+    /// parked under the ticket already, nothing changes.
     pub fn park(&mut self, ticket: u64, kind: Kind, signal: S) -> Result<(), AllocError>
         ensures parked { OnOk result (self.new ≡ self.old ++ new_receiver ticket kind signal ∷ []) }
         ensures unchanged { OnErr result (self.new ≡ self.old) }
     {
         let notice = Notice { signal, due: false };
         let mark = Mark::Waiting;
-        let parked = Parked { kind, mark, notice };
+        let parked = ParkedReceiver { kind, mark, notice };
         match self.chain.insert(None, ticket, parked) {
             Ok(place) => {
                 self.due = self.due.or(Some(place));
@@ -216,8 +214,8 @@ impl<T: Drop, S: Drop, A: Allocator + Copy> Entries<T, S, A> {
         message_in(mark)
     }
 
-    /// The receiver with this ticket is no longer due, and waits on, behind all others if it was
-    /// woken; a signal given here replaces its own. A filled one stays as it is.
+    /// The receiver with this ticket waits on, behind all others if it was woken, and isn't due; a
+    /// signal given here replaces its own. A filled one stays as it is.
     pub fn wait_on(&mut self, ticket: u64, signal: Option<S>)
         ensures waits { held_by (entry_of ticket self.old) ≡ None → self.new
             ≡ again ticket (noticed_receiver (waits_on signal) ticket self.old) }

@@ -1,7 +1,6 @@
 //! The line of a channel: its queued messages, its blocked ones, and the live sends.
-ghost use Rattle.std.specs.Prelude.{◌≡◌, ◌≢◌, ◌<◌, ◌≤◌, ◌+◌, ℕ, true, false, [], ◌∷◌, ◌++◌, length};
+ghost use Rattle.std.specs.Prelude.{◌≡◌, ◌≢◌, ◌<◌, ◌≤◌, ◌+◌, true, false, [], ◌∷◌, ◌++◌, length};
 ghost use Rattle.std.specs.Prelude.{Some, None, IfNone, IfSome, IfOk, IfErr, OnOk, OnErr, IsOk};
-ghost use Rattle.std.specs.Prelude.{◌↔◌};
 ghost use Rattle.std.specs.List.{All};
 ghost use Rattle.std.specs.Option.{option_map, option_copied};
 ghost use Rattle.std.specs.FinMap.{empty, get, insert, remove};
@@ -15,8 +14,7 @@ use crate::sends::Sends;
 use std::alloc::{AllocError, Allocator};
 use std::marker::Model;
 
-/// The queued messages, behind them the blocked ones, and the live sends. Only `push_queued`,
-/// `block` and `drain_queued` allocate.
+/// The messages and the live sends. Only `push_queued`, `block` and `drain_queued` allocate.
 #[derive(Drop)]
 pub struct Line<T, S, A: Allocator> {
     // A blocked message and its send have each other's place: so neither is searched for.
@@ -46,7 +44,7 @@ impl<T, S, A: Allocator> Model for Line<T, S, A> {
 
 // Some methods only forward, so that neither part changes without the other.
 impl<T: Drop, S: Drop, A: Allocator + Copy> Line<T, S, A> {
-    /// A line with no messages and no sends.
+    /// No messages and no sends.
     ///
     /// ```
     /// let mut line: Line<u64, (), Global> = Line::new(alloc);
@@ -89,8 +87,7 @@ impl<T: Drop, S: Drop, A: Allocator + Copy> Line<T, S, A> {
         self.messages.room()
     }
 
-    /// Queues a message behind the queued ones. If there is no memory for it, the message comes
-    /// back, and the line stays as it was; while there is room, it isn't refused.
+    /// Queues a message behind the queued ones. If memory runs out, it comes back.
     #[inline(always)]
     pub fn push_queued(&mut self, message: T) -> Result<(), T>
         ensures pushed { OnOk result (self.new ≡ record self.old {
@@ -106,7 +103,7 @@ impl<T: Drop, S: Drop, A: Allocator + Copy> Line<T, S, A> {
     }
 
     /// Puts a message behind all others, blocked under this ticket and not due. If memory runs out,
-    /// or the ticket is live already, the message comes back, and the line stays as it was.
+    /// or the ticket is live already, the message comes back.
     pub fn block(&mut self, ticket: u64, message: T, signal: S) -> Result<(), T>
         ensures blocked { OnOk result (self.new ≡ record self.old {
           blocked = self.old.blocked ++ record { ticket = ticket; message = message } ∷ [];
@@ -117,8 +114,7 @@ impl<T: Drop, S: Drop, A: Allocator + Copy> Line<T, S, A> {
         ensures returned { IfErr result (λ back. back ≡ message) }
         ensures unchanged { OnErr result (self.new ≡ self.old) }
     {
-        // The send first: a message's place would stay after a refusal, which would leave more
-        // room.
+        // The send first: memory for the message would stay after a refusal, as more room.
         let Ok(send_place) = self.sends.block(ticket, signal) else {
             return Err(message);
         };

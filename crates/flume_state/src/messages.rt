@@ -10,14 +10,12 @@ ghost use Rattle.flume_state.specs.Effects.{with_all_due};
 
 use crate::optional_place::OptionalPlace;
 use crate::sends::Sends;
-use crate::ticket_chain::push;
 use flume_chain::chain::Chain;
 use flume_chain::labelled::LabelledValue;
 use std::alloc::{AllocError, Allocator};
 use std::marker::Model;
 
-/// The queued messages, and behind them the blocked ones, each with the place of its send. Only
-/// `push_queued`, `push_blocked` and `drain_queued` allocate.
+/// Only `push_queued`, `push_blocked` and `drain_queued` allocate.
 #[derive(Drop)]
 pub struct MessageChain<T, A: Allocator> {
     // A blocked one that joins the queue stays in its node, so nothing is allocated.
@@ -73,7 +71,7 @@ impl<T: Drop, A: Allocator + Copy> MessageChain<T, A> {
     /// messages.admit();                    // Some(3)
     /// ```
     #[inline(always)]
-    pub fn new(alloc: A) -> Self
+    pub(crate) fn new(alloc: A) -> Self
         ensures empty { result ≡ record { queued = []; blocked = []; space = 0 } }
     {
         MessageChain {
@@ -85,40 +83,35 @@ impl<T: Drop, A: Allocator + Copy> MessageChain<T, A> {
 
     /// What holds of all messages. Does nothing.
     #[inline(always)]
-    pub fn facts(&self)
+    pub(crate) fn facts(&self)
         ensures apart { (k : ℕ) → times k (map (λ b. b.place) self.now.blocked) ≤ 1 }
     {
         self.chain.facts();
     }
 
-    /// How many messages are queued. Reads counts.
     #[inline(always)]
-    pub fn queued_len(&self) -> usize
+    pub(crate) fn queued_len(&self) -> usize
         ensures len { result ≡ length self.now.queued }
     {
         self.chain.len() - self.blocked_len
     }
 
-    /// How many messages are blocked. Reads a count.
     #[inline(always)]
-    pub fn blocked_len(&self) -> usize
+    pub(crate) fn blocked_len(&self) -> usize
         ensures len { result ≡ length self.now.blocked }
     {
         self.blocked_len
     }
 
-    /// How many more messages fit before one needs an allocation.
     #[inline(always)]
-    pub fn room(&self) -> usize
+    pub(crate) fn room(&self) -> usize
         ensures room { result + messages_in_chain self.now ≡ self.now.space }
     {
         self.chain.room()
     }
 
-    /// Queues a message behind the queued ones. If there is no memory for it, the message comes
-    /// back, and nothing changes; while there is room, it isn't refused.
     #[inline(always)]
-    pub fn push_queued(&mut self, message: T) -> Result<(), T>
+    pub(crate) fn push_queued(&mut self, message: T) -> Result<(), T>
         ensures pushed { OnOk result (self.new ≡ record self.old {
           queued = self.old.queued ++ message ∷ [];
           space = self.new.space;
@@ -134,15 +127,15 @@ impl<T: Drop, A: Allocator + Copy> MessageChain<T, A> {
             label,
             value: message,
         };
-        if let Err(back) = push(&mut self.chain, self.blocked, element) {
+        if let Err(back) = self.chain.insert_before(self.blocked, element) {
             return Err(back.value);
         }
         Ok(())
     }
 
     /// Puts a blocked message behind all others, and returns its place. If memory runs out, or
-    /// `send_place` is no place, the message comes back, and nothing changes.
-    pub fn push_blocked(&mut self, send_place: u32, message: T) -> Result<u32, T>
+    /// `send_place` is no place, the message comes back.
+    pub(crate) fn push_blocked(&mut self, send_place: u32, message: T) -> Result<u32, T>
         ensures pushed { IfOk result (λ place. self.new ≡ record self.old {
           blocked = self.old.blocked
               ++ record { place = place; send_place = send_place; message = message } ∷ [];
@@ -174,7 +167,7 @@ impl<T: Drop, A: Allocator + Copy> MessageChain<T, A> {
 
     /// Queues the first blocked message, and returns its send's place. `None` if none is blocked.
     #[inline(always)]
-    pub fn admit(&mut self) -> Option<u32>
+    pub(crate) fn admit(&mut self) -> Option<u32>
         ensures admitted { IfSome result (λ send_place. AdmitsSend self.old self.new send_place) }
         ensures none_blocked { IfNone result (self.old.blocked ≡ []) }
         ensures unchanged { IfNone result (self.new ≡ self.old) }
@@ -188,9 +181,8 @@ impl<T: Drop, A: Allocator + Copy> MessageChain<T, A> {
         Some(send_place)
     }
 
-    /// Takes the message at the front of the queue. `None` if none is queued.
     #[inline(always)]
-    pub fn take_queued(&mut self) -> Option<T>
+    pub(crate) fn take_queued(&mut self) -> Option<T>
         ensures taken { IfSome result (λ m.
             self.old ≡ record self.new { queued = m ∷ self.new.queued }) }
         ensures none_queued { IfNone result (self.old.queued ≡ []) }
@@ -202,8 +194,7 @@ impl<T: Drop, A: Allocator + Copy> MessageChain<T, A> {
         Some(self.chain.pop_front()?.value)
     }
 
-    /// Takes all queued messages. If there is no memory for their list, nothing changes.
-    pub fn drain_queued(&mut self) -> Result<Vec<T, A>, AllocError>
+    pub(crate) fn drain_queued(&mut self) -> Result<Vec<T, A>, AllocError>
         ensures drained { IfOk result (λ list. list.items ≡ self.old.queued) }
         ensures becomes { OnOk result (self.new ≡ record self.old { queued = [] }) }
         ensures none_queued { OnErr result (self.old.queued ≢ []) }
@@ -216,8 +207,7 @@ impl<T: Drop, A: Allocator + Copy> MessageChain<T, A> {
         Ok(list)
     }
 
-    /// Marks the send of each blocked message due, the first one's first.
-    pub fn mark_blocked<S: Drop>(&self, sends: &mut Sends<S, A>)
+    pub(crate) fn mark_blocked<S: Drop>(&self, sends: &mut Sends<S, A>)
         requires owned { All (HasLink sends.old) self.now.blocked }
         ensures marked { live_sends sends.new
             ≡ with_all_due (under_tickets sends.old self.now.blocked) (live_sends sends.old) }
@@ -233,8 +223,7 @@ impl<T: Drop, A: Allocator + Copy> MessageChain<T, A> {
         }
     }
 
-    /// Takes out the blocked message at a place. `None` if there is none there.
-    pub fn withdraw(&mut self, place: u32) -> Option<T>
+    pub(crate) fn withdraw(&mut self, place: u32) -> Option<T>
         ensures taken { IfSome result (λ m. TakesOut self.old self.new place m) }
         ensures absent { IfNone result (All (λ b. b.place ≢ place) self.old.blocked) }
         ensures unchanged { IfNone result (self.new ≡ self.old) }
@@ -248,8 +237,7 @@ impl<T: Drop, A: Allocator + Copy> MessageChain<T, A> {
         Some(element.value)
     }
 
-    /// Drops every message, queued and blocked.
-    pub fn clear(&mut self)
+    pub(crate) fn clear(&mut self)
         ensures empty { self.new ≡ record self.old { queued = []; blocked = [] } }
     {
         self.chain.clear();

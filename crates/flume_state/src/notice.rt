@@ -1,4 +1,4 @@
-//! The signal of a blocked send or a parked receiver, and whether its ticket is due.
+//! The signal of a live ticket.
 
 /// The signal that a blocked send or a parked receiver left, and whether its ticket is due.
 #[derive(Drop)]

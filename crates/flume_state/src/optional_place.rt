@@ -6,8 +6,7 @@ use std::marker::Model;
 // No chain has this number as a place.
 const NO_PLACE: u32 = u32::MAX;
 
-/// A place, or none, in 4 bytes, half of an `Option<u32>`: so the node of a queued message of 8
-/// bytes takes 24 bytes instead of 32.
+/// Half as large as an `Option<u32>`: so the node of a message of 8 bytes takes 24 instead of 32.
 #[derive(Drop)]
 pub struct OptionalPlace {
     number: u32,
@@ -31,15 +30,14 @@ impl OptionalPlace {
     /// }
     /// ```
     #[inline(always)]
-    pub fn none() -> Self
+    pub(crate) fn none() -> Self
         ensures none { result ≡ None }
     {
         OptionalPlace { number: NO_PLACE }
     }
 
-    /// This place. `None` for the greatest number, which no chain has as a place.
     #[inline(always)]
-    pub fn of(place: u32) -> Option<Self>
+    pub(crate) fn of(place: u32) -> Option<Self>
         ensures place { IfSome result (λ made. made ≡ Some place) }
         ensures refused { result ≡ None ↔ place ≡ 4294967295 }
     {
@@ -49,9 +47,8 @@ impl OptionalPlace {
         Some(OptionalPlace { number: place })
     }
 
-    /// The place. `None` if there is none.
     #[inline(always)]
-    pub fn get(&self) -> Option<u32>
+    pub(crate) fn get(&self) -> Option<u32>
         ensures place { result ≡ self.now }
     {
         if self.number == NO_PLACE {

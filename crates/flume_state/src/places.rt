@@ -37,14 +37,13 @@ impl<A: Allocator + Copy> Places<A> {
     /// ```
     /// let mut places = Places::new(alloc);
     /// let _ = places.insert(7, 2);       // Ok(())
+    /// let _ = places.insert(7, 5);       // Err(AllocError)
     /// places.get(7);                     // Some(2)
-    /// let _ = places.insert(7, 5);       // Ok(())
-    /// places.get(7);                     // Some(5)
     /// places.remove(7);
     /// places.get(7);                     // None
     /// ```
     #[inline(always)]
-    pub fn new(alloc: A) -> Self
+    pub(crate) fn new(alloc: A) -> Self
         ensures empty { result ≡ empty }
     {
         Places {
@@ -53,9 +52,8 @@ impl<A: Allocator + Copy> Places<A> {
         }
     }
 
-    /// The place of `ticket`, and `None` if it has none.
     #[inline(always)]
-    pub fn get(&self, ticket: u64) -> Option<u32>
+    pub(crate) fn get(&self, ticket: u64) -> Option<u32>
         ensures place { result ≡ get self.now ticket }
     {
         match &self.lone {
@@ -64,26 +62,23 @@ impl<A: Allocator + Copy> Places<A> {
         }
     }
 
-    /// Gives `ticket` a place, instead of any other. Allocates only for a new ticket while another
-    /// has a place. If memory runs out, nothing changes.
+    /// Gives `ticket` a place. If it has one, or memory runs out, nothing changes.
     #[inline(always)]
-    pub fn insert(&mut self, ticket: u64, place: u32) -> Result<(), AllocError>
+    pub(crate) fn insert(&mut self, ticket: u64, place: u32) -> Result<(), AllocError>
         ensures inserted { OnOk result (self.new ≡ insert self.old ticket place) }
+        ensures absent { OnOk result (get self.old ticket ≡ None) }
         ensures unchanged { OnErr result (self.new ≡ self.old) }
-        ensures absent { OnErr result (get self.old ticket ≡ None) }
     {
         match &self.lone {
-            None if self.table.is_empty() => {}
-            Some(lone) if lone.0 == ticket => {}
+            None if self.table.is_empty() => self.lone = Some((ticket, place)),
+            Some(lone) if lone.0 == ticket => return Err(AllocError),
             _ => return self.table.insert(ticket, place),
         }
-        self.lone = Some((ticket, place));
         Ok(())
     }
 
-    /// The ticket has no place any more.
     #[inline(always)]
-    pub fn remove(&mut self, ticket: u64)
+    pub(crate) fn remove(&mut self, ticket: u64)
         ensures removed { self.new ≡ remove self.old ticket }
     {
         match &self.lone {
@@ -92,8 +87,7 @@ impl<A: Allocator + Copy> Places<A> {
         }
     }
 
-    /// No ticket has a place any more.
-    pub fn clear(&mut self)
+    pub(crate) fn clear(&mut self)
         ensures empty { self.new ≡ empty }
     {
         self.lone = None;

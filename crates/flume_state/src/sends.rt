@@ -36,8 +36,8 @@ pub struct PlacedSend<S> {
 /// The live send of each live ticket, each at a place that it keeps. Only `block` allocates.
 #[derive(Drop)]
 pub struct Sends<S, A: Allocator> {
-    // First those that aren't due, whose order nothing reads, then those that are, in the order in
-    // which they became due: so `next_due` reads one place.
+    // First those that aren't due, then those that are, in the order in which they became due: so
+    // `next_due` reads one place.
     chain: TicketChain<PlacedSend<S>, A>,
     due: Option<u32>,
 }
@@ -48,9 +48,9 @@ impl<S, A: Allocator> Model for Sends<S, A> {
 
     ghost Value = { SendList S };
 
-    ghost view = { λ s. s.chain.items };
+    ghost view = { λ s. s.chain };
 
-    ghost invariant = { λ s. SendLayout (sends_in s.chain.items) s.due };
+    ghost invariant = { λ s. SendLayout (sends_in s.chain) s.due };
 }
 
 impl<S: Drop, A: Allocator + Copy> Sends<S, A> {
@@ -65,7 +65,7 @@ impl<S: Drop, A: Allocator + Copy> Sends<S, A> {
     /// sends.next_due();                  // Some(7)
     /// ```
     #[inline(always)]
-    pub fn new(alloc: A) -> Self
+    pub(crate) fn new(alloc: A) -> Self
         ensures empty { result ≡ [] }
     {
         Sends {
@@ -77,7 +77,7 @@ impl<S: Drop, A: Allocator + Copy> Sends<S, A> {
     /// Makes `ticket` live, blocked and not due, and returns its place. The place of its message
     /// has to be set next. If memory runs out, or the ticket is live already, nothing changes.
     #[inline(always)]
-    pub fn block(&mut self, ticket: u64, signal: S) -> Result<u32, AllocError>
+    pub(crate) fn block(&mut self, ticket: u64, signal: S) -> Result<u32, AllocError>
         ensures live { OnOk result (live_sends self.new
             ≡ insert (live_sends self.old) ticket (newly_blocked signal)) }
         ensures link { IfOk result (λ p. (k : ℕ) → link_at self.new k ≡ if k == p
@@ -100,9 +100,8 @@ impl<S: Drop, A: Allocator + Copy> Sends<S, A> {
         }
     }
 
-    /// Sets the place of the message of the send at this place, if there is one.
     #[inline(always)]
-    pub fn set_message(&mut self, place: u32, message: u32)
+    pub(crate) fn set_message(&mut self, place: u32, message: u32)
         ensures live { live_sends self.new ≡ live_sends self.old }
         ensures link { (k : ℕ) → link_at self.new k ≡ if k == place
             then option_map (at_message message) (link_at self.old k) else link_at self.old k }
@@ -116,7 +115,7 @@ impl<S: Drop, A: Allocator + Copy> Sends<S, A> {
 
     /// The places of the blocked send with this ticket and of its message. `None` if there is none.
     #[inline(always)]
-    pub fn blocked_at(&self, ticket: u64) -> Option<(u32, u32)>
+    pub(crate) fn blocked_at(&self, ticket: u64) -> Option<(u32, u32)>
         ensures found { IfSome result (λ b. link_at self.now b.0
             ≡ Some (record { ticket = ticket; message = b.1; accepted = false })) }
         ensures only { IfSome result (λ b. (k : ℕ) (l : Link) → link_at self.now k ≡ Some l
@@ -133,18 +132,16 @@ impl<S: Drop, A: Allocator + Copy> Sends<S, A> {
         Some((place, placed.message))
     }
 
-    /// Whether the message of a live ticket was accepted. `None` if the ticket isn't live.
     #[inline(always)]
-    pub fn accepted(&self, ticket: u64) -> Option<bool>
+    pub(crate) fn accepted(&self, ticket: u64) -> Option<bool>
         ensures value { result
             ≡ option_map (λ s. s.accepted) (get (live_sends self.now) ticket) }
     {
         Some(self.get(ticket)?.accepted)
     }
 
-    /// The signal that the sender of a live ticket left last. `None` if the ticket isn't live.
     #[inline(always)]
-    pub fn signal(&self, ticket: u64) -> Option<&S>
+    pub(crate) fn signal(&self, ticket: u64) -> Option<&S>
         ensures value { option_copied result
             ≡ option_map (λ s. s.notice.signal) (get (live_sends self.now) ticket) }
     {
@@ -160,8 +157,7 @@ impl<S: Drop, A: Allocator + Copy> Sends<S, A> {
         Some(&self.chain.get(place)?.send)
     }
 
-    /// Replaces the signal of a live ticket. Nothing changes if the ticket isn't live.
-    pub fn set_signal(&mut self, ticket: u64, signal: S)
+    pub(crate) fn set_signal(&mut self, ticket: u64, signal: S)
         ensures live { live_sends self.new
             ≡ noticed_send (with_signal (Some signal)) ticket (live_sends self.old) }
         ensures links { (k : ℕ) → link_at self.new k ≡ link_at self.old k }
@@ -176,10 +172,8 @@ impl<S: Drop, A: Allocator + Copy> Sends<S, A> {
         placed.send.notice.signal = signal;
     }
 
-    /// The send at this place is accepted, and due. Nothing changes if there is none.
-    // Apart from `mark_due`, so that each call says which of the two it means.
     #[inline(never)]
-    pub fn accept(&mut self, place: u32)
+    pub(crate) fn accept(&mut self, place: u32)
         ensures live { IfSome (link_at self.old place) (λ l. live_sends self.new
             ≡ changed (live_sends self.old) l.ticket accepted_now) }
         ensures link { (k : ℕ) → link_at self.new k ≡ if k == place
@@ -188,8 +182,7 @@ impl<S: Drop, A: Allocator + Copy> Sends<S, A> {
         self.make_due(place, true);
     }
 
-    /// Makes the ticket of the send at this place due. Nothing changes if there is no such send.
-    pub fn mark_due(&mut self, place: u32)
+    pub(crate) fn mark_due(&mut self, place: u32)
         ensures live { IfSome (link_at self.old place) (λ l. live_sends self.new
             ≡ noticed_send due_now l.ticket (live_sends self.old)) }
         ensures links { (k : ℕ) → link_at self.new k ≡ link_at self.old k }
@@ -197,7 +190,6 @@ impl<S: Drop, A: Allocator + Copy> Sends<S, A> {
         self.make_due(place, false);
     }
 
-    // One that wasn't due goes behind all others.
     fn make_due(&mut self, place: u32, accepts: bool)
         ensures live { IfSome (link_at self.old place) (λ l. live_sends self.new
             ≡ changed (live_sends self.old) l.ticket (due_accepting accepts)) }
@@ -217,9 +209,8 @@ impl<S: Drop, A: Allocator + Copy> Sends<S, A> {
         }
     }
 
-    /// The place of the send with this ticket. `None` if the ticket isn't live.
     #[inline(always)]
-    pub fn find(&self, ticket: u64) -> Option<u32>
+    pub(crate) fn find(&self, ticket: u64) -> Option<u32>
         ensures found { IfSome result (λ p. option_map (λ l. l.ticket) (link_at self.now p)
             ≡ Some ticket) }
         ensures accepted { IfSome result (λ p. option_map (λ l. l.accepted) (link_at self.now p)
@@ -230,9 +221,8 @@ impl<S: Drop, A: Allocator + Copy> Sends<S, A> {
         self.chain.find(ticket)
     }
 
-    /// Spends the ticket of the send at this place. Nothing changes if there is no such send.
     #[inline(always)]
-    pub fn spend(&mut self, place: u32)
+    pub(crate) fn spend(&mut self, place: u32)
         ensures live { IfSome (link_at self.old place) (λ l. live_sends self.new
             ≡ remove (live_sends self.old) l.ticket) }
         ensures link { (k : ℕ) → link_at self.new k ≡ if k == place then None
@@ -246,9 +236,8 @@ impl<S: Drop, A: Allocator + Copy> Sends<S, A> {
         self.chain.discard(place);
     }
 
-    /// A live ticket that was due, and isn't afterwards. `None` if none is due. Searches nothing.
     #[inline(always)]
-    pub fn next_due(&mut self) -> Option<u64>
+    pub(crate) fn next_due(&mut self) -> Option<u64>
         ensures was_due { IfSome result (λ t. is_due_send (live_sends self.old) t ≡ true) }
         ensures taken { IfSome result (λ t. live_sends self.new
             ≡ noticed_send no_longer_due t (live_sends self.old)) }
@@ -262,7 +251,6 @@ impl<S: Drop, A: Allocator + Copy> Sends<S, A> {
         }
     }
 
-    // The out-of-line part of `next_due`.
     #[cold]
     #[inline(never)]
     fn take_first_due(&mut self) -> Option<u64>
@@ -282,8 +270,7 @@ impl<S: Drop, A: Allocator + Copy> Sends<S, A> {
         Some(ticket)
     }
 
-    /// No ticket is live any more.
-    pub fn clear(&mut self)
+    pub(crate) fn clear(&mut self)
         ensures empty { self.new ≡ [] }
     {
         self.chain.clear();

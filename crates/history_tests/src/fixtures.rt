@@ -1,5 +1,4 @@
-//! What several tests use. What can't be had fails the test here: a `?` in a test costs the prover
-//! a second, and an abort none.
+//! What can't be had fails the test here: a `?` in a test costs the prover a second.
 use flume_history::check::Checked;
 use flume_model::step::{Reply, Step};
 use flume_script::reading::{opening_of, step_of};
@@ -7,10 +6,8 @@ use std::alloc::{Allocator, Global};
 use std::fmt::Debug;
 use std::process::Abort;
 
-/// A step with its reply.
 pub(crate) type Pair<A = Global> = (Step<u64>, Reply<u64, A>);
 
-/// A channel's capacity, and its history.
 #[derive(Drop)]
 pub(crate) struct History<A: Allocator> {
     pub(crate) capacity: Option<usize>,
@@ -58,17 +55,14 @@ pub(crate) fn history_of<A: Allocator + Copy>(rt: &impl Abort, alloc: A, text: &
     History { capacity, pairs }
 }
 
-/// The check answers as expected.
 pub(crate) fn is(rt: &impl Abort, title: &str, answer: Checked, wanted: Checked) {
     assert_eq!(rt; answer, wanted, "{title}");
 }
 
-/// It holds; if not, the test fails with this fault.
 pub(crate) fn holds(rt: &impl Abort, fault: &str, truth: bool) {
     assert!(rt; truth, "{fault}");
 }
 
-/// The result of a call that fails for memory alone.
 pub(crate) fn unwrap<T, E: Debug + Drop>(rt: &impl Abort, answer: Result<T, E>) -> T {
     answer.expect(rt, "there is memory")
 }

@@ -1,5 +1,4 @@
-//! Tests of `flume_history`: histories written by hand, and random ones, compared with a second
-//! judge.
+//! Tests of `flume_history`, by hand and by a second judge.
 #![tactic(auto)]
 
 #[cfg(test)]

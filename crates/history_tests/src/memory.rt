@@ -5,7 +5,6 @@ use std::alloc::Global;
 use std::process::Abort;
 use test_support::counting::Counting;
 
-// More growths than a check has.
 const MOST: u64 = 1000;
 
 // The check stores messages, tickets and a drained list.
@@ -17,7 +16,6 @@ send 3 -> pending 2
 drain -> drained 1 2
 try_recv -> got 3";
 
-// Steps for which a channel allocates nothing, with their replies.
 const STORES_NOTHING: &str = "bounded 2
 try_recv -> empty
 try_send 5 -> nomemory 5
@@ -29,8 +27,7 @@ const WRONG_AT_ONCE: &str = "bounded 2
 try_recv -> got 5
 try_send 5 -> sent";
 
-// Checks a history with these growths refused, and answers how many were. If any was, the check
-// says that there was no memory.
+// How many growths were refused. If any was, the check says that there was no memory.
 fn check_with_refusals(
     rt: &impl Abort,
     alloc: Global,

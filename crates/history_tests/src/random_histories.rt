@@ -1,5 +1,4 @@
-//! Random histories of a channel are runs, by the check and by the slow judge. With one reply
-//! replaced both judge them alike.
+//! Random histories of a channel, as they are and with one reply replaced, by both judges.
 use crate::fixtures::{History, holds, is, unwrap};
 use crate::random_replies::RandomReplies;
 use crate::slow_judge::judge;
@@ -19,7 +18,6 @@ const STEPS: u64 = 40;
 const KINDS: &str = "sent full closed pending accepted waiting returned noticket got empty ended \
     parked gone drained done noend 0 1 true false none unbounded";
 
-// The replies of a new channel to random steps.
 fn random_history(
     rt: &impl Abort,
     alloc: Global,
@@ -40,7 +38,7 @@ fn random_history(
     History { capacity, pairs }
 }
 
-// What the check says of a history; the slow judge says the same.
+// The slow judge says the same.
 fn check(rt: &impl Abort, alloc: Global, history: &History<Global>) -> Checked {
     let checked = check_history(alloc, history.capacity, &history.pairs);
     let judged = judge(rt, alloc, history.capacity, &history.pairs);

@@ -134,7 +134,6 @@ impl RandomReplies {
     }
 }
 
-// The reply of this number that holds nothing.
 fn plain(number: u64) -> Reply<u64> {
     match number {
         0 => Reply::Accepted,

@@ -1,15 +1,12 @@
-//! Histories with one fault, for the judge of random scripts; and messages that the check compares
-//! by their own `Eq`. `flume_replay` has more histories for the check itself.
-use crate::fixtures::{history_of, holds, is, unwrap};
+//! Histories with one fault, for the judge of random scripts. `flume_replay` has the check's.
+use crate::fixtures::{history_of, holds, unwrap};
 use core_tests::judge::Judge;
-use flume_history::check::{Checked, check_history};
-use flume_model::step::{Reply, Step};
 use std::alloc::Global;
 use std::process::Abort;
 
-// Histories with a wrong reply behind a bar: a message that filled a receiver is lost, is got
-// twice, and fills twice; one is received again; two of a drained list change places; a send is
-// accepted twice; and a receiver's ticket serves as a send's.
+// A wrong reply is behind each bar: a message that filled a receiver is lost, is got twice, fills
+// twice; one is received again; two of a drained list change places; a send is accepted twice; a
+// receiver's ticket serves as a send's.
 const FAULTS: &str = "
 = unbounded
 recv block -> parked 1
@@ -63,114 +60,5 @@ fn the_judge_of_random_scripts_finds_each_fault(rt: HostRuntime) {
             let judge = is_right(&rt, rt.alloc(), text.as_str().trim_end());
             holds(&rt, block, judge == truth);
         }
-    }
-}
-
-// A number with a label, which its equality ignores.
-#[derive(Clone, Copy, Debug, Drop)]
-#[derive_where(PartialEq, Eq)]
-struct NumberWithLabel {
-    number: u64,
-    #[derive_where(skip(EqHashOrd))]
-    label: u64,
-}
-
-// What the check answers of a history of these three: one that is sent, the one that came back as
-// memory ran out before, and the one that is received.
-fn check_history_of(rt: &impl Abort, alloc: Global, messages: [NumberWithLabel; 3]) -> Checked {
-    let [sent, refused, received] = messages;
-    let mut history = Vec::new(alloc);
-    unwrap(
-        rt,
-        history.push((Step::TrySend(sent), Reply::NoMemory(Some(refused)))),
-    );
-    unwrap(
-        rt,
-        history.push((Step::TrySend(sent), Reply::Sent { filled: None })),
-    );
-    unwrap(rt, history.push((Step::TryRecv, Reply::Got(received))));
-    check_history(alloc, None, &history)
-}
-
-#[test]
-fn messages_are_compared_by_their_eq(rt: HostRuntime) {
-    let sent = NumberWithLabel {
-        number: 5,
-        label: 1,
-    };
-    let equal = NumberWithLabel {
-        number: 5,
-        label: 2,
-    };
-    let other = NumberWithLabel {
-        number: 6,
-        label: 1,
-    };
-    let rows = [
-        ([sent, equal, equal], Checked::Run),
-        ([sent, equal, other], Checked::Breaks(2)),
-        ([sent, other, equal], Checked::Breaks(0)),
-    ];
-    for (messages, wanted) in rows {
-        is(
-            &rt,
-            "labelled",
-            check_history_of(&rt, rt.alloc(), messages),
-            wanted,
-        );
-    }
-}
-
-// Histories, each behind its answer: `run`, or the place of the first pair that is wrong.
-const WORKED: &str = "
-= run
-unbounded
-try_recv -> empty
-try_send 5 -> sent
-try_recv -> got 5
-= 2
-unbounded
-try_recv -> empty
-try_send 5 -> sent
-try_recv -> got 6
-= run
-bounded 1
-try_send 1 -> sent
-send 2 -> pending 1
-set_capacity 2 -> done
-poll_send 1 -> accepted
-= 2
-bounded 1
-try_send 1 -> sent
-send 2 -> pending 1
-poll_send 1 -> accepted
-= 0
-unbounded
-try_recv -> nomemory
-= run
-unbounded
-try_send 5 -> nomemory 5
-try_recv -> empty
-= run
-bounded 1
-try_send 1 -> sent
-send 2 -> pending 1
-try_recv -> nomemory
-try_recv -> got 1
-= run
-unbounded
-";
-
-#[test]
-fn the_check_answers_the_worked_histories(rt: HostRuntime) {
-    for block in WORKED.trim_end().split("\n= ").skip(1) {
-        let (answer, text) = block.split_once("\n").expect(&rt, "an answer");
-        let wanted = match answer.parse() {
-            Ok(place) => Checked::Breaks(place),
-            Err(_) => Checked::Run,
-        };
-        let history = history_of(&rt, rt.alloc(), text);
-        let checked = check_history(rt.alloc(), history.capacity, &history.pairs);
-        is(&rt, text, checked, wanted);
     }
 }

@@ -1,6 +1,4 @@
-//! A slow judge of histories, written from the definitions on plain lists. It keeps a channel's
-//! state, and a history is a run as long as each reply is its own answer, or `NoMemory` if that is
-//! lawful.
+//! A slow judge of histories, written from the definitions on plain lists.
 use crate::fixtures::{Pair, unwrap};
 use flume_history::check::Checked;
 use flume_model::step::{Kind, Reply, Step};
@@ -44,8 +42,7 @@ pub(crate) struct SlowJudge {
     pub(crate) receivers: usize,
 }
 
-/// Whether a history of a channel of this capacity is a run, or which step is the first that has an
-/// unlawful reply.
+/// Whether a history is a run, or which step is the first that has an unlawful reply.
 pub(crate) fn judge(
     rt: &impl Abort,
     alloc: Global,
@@ -74,7 +71,6 @@ pub(crate) fn judge(
     Checked::Run
 }
 
-/// The message of a step.
 pub(crate) fn message_of(step: &Step<u64>) -> Option<u64> {
     match step {
         Step::TrySend(message) | Step::Send(message) => Some(*message),
@@ -128,7 +124,7 @@ impl SlowJudge {
         self.parked.len()
     }
 
-    // Makes the step, and answers its lawful reply other than `NoMemory`.
+    // Makes the step, and returns its lawful reply other than `NoMemory`.
     fn answer(&mut self, rt: &impl Abort, alloc: Global, step: &Step<u64>) -> Reply<u64> {
         match step {
             Step::TrySend(message) => self.offer(rt, *message, false),
@@ -148,7 +144,6 @@ impl SlowJudge {
         }
     }
 
-    // Queues the message, and makes a wake round; or blocks it.
     fn offer(&mut self, rt: &impl Abort, message: u64, blocks: bool) -> Reply<u64> {
         if !self.is_open() {
             return Reply::Closed(message);
@@ -173,7 +168,7 @@ impl SlowJudge {
     }
 
     // Wakes streams up to the first waiting receiver that is none. That one is woken too, or filled
-    // with the front if it blocks: then its ticket is answered.
+    // with the front if it blocks: then its ticket is returned.
     fn wake_round(&mut self) -> Option<u64> {
         let front = self.line.front()?.message;
         for receiver in &mut self.parked {
@@ -196,7 +191,6 @@ impl SlowJudge {
         None
     }
 
-    // Polls a blocked send, or withdraws it.
     fn poll_send(&mut self, ticket: u64, withdraws: bool) -> Reply<u64> {
         let Some(at) = self.live.iter().position(|live| *live == ticket) else {
             return Reply::NoTicket;
@@ -261,8 +255,7 @@ impl SlowJudge {
         Reply::Parked(ticket)
     }
 
-    // Polls a parked receiver. A woken one that finds nothing waits again, behind all others; a
-    // waiting one keeps its place.
+    // A woken receiver that finds nothing waits again, behind all others.
     fn poll(&mut self, rt: &impl Abort, ticket: u64) -> Reply<u64> {
         let place = self.place_of(ticket);
         let Some(receiver) = self.parked.get(place).copied() else {
@@ -287,8 +280,7 @@ impl SlowJudge {
         reply
     }
 
-    // Withdraws a parked receiver. One that blocks takes the front with it; a woken one passes its
-    // wake on.
+    // A receiver that blocks takes the front with it; a woken one passes its wake on.
     fn withdraw(&mut self, ticket: u64) -> Reply<u64> {
         let place = self.place_of(ticket);
         let Some(receiver) = self.parked.remove(place) else {

@@ -1,1 +1,1 @@
-mod Counting
+mod CountingLemmas

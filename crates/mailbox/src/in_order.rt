@@ -2,15 +2,13 @@
 ghost use Rattle.std.specs.Prelude.{◌≡◌, ◌<◌, ◌↔◌, All, IsTrue};
 ghost use Rattle.mailbox.specs.InOrder.{IsInOrder, numbers_of, one_to_hundred};
 
-/// How many workers there are: 0, 1 and 2.
+/// Workers are numbered from 0.
 pub const WORKERS: u64 = 3;
 
-/// How many messages each sends: the numbers from 1 to this one.
+/// Each worker sends the numbers from 1 to this one.
 pub const MESSAGES: u64 = 100;
 
-/// Whether each pair is of one of the three workers, and the numbers of each worker are 1 to 100,
-/// in this order. The order of different workers' pairs is open. Doesn't allocate.
-///
+/// Whether the messages of all workers arrived, and those of each in order. Doesn't allocate.
 /// ```
 /// in_order(&[]);                     // false: there are no numbers
 /// in_order(&[(0, 1)]);               // false: most are lacking
@@ -27,7 +25,6 @@ fn of_workers(pairs: &[(u64, u64)]) -> bool
     pairs.iter().all(|pair| pair.0 < WORKERS)
 }
 
-// Whether the numbers of this worker are all that it sends, in order.
 fn counts_up(pairs: &[(u64, u64)], worker: u64) -> bool
     ensures numbers { IsTrue result ↔ (numbers_of worker pairs.now ≡ one_to_hundred) }
 {

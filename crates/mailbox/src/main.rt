@@ -1,14 +1,10 @@
-//! A mailbox: three workers send into one channel, which is widened while they send.
+//! A mailbox: three workers send into one channel, which is widened while they send. It prints how
+//! many messages came, and their sum.
 //!
-//! Each worker sends the numbers from 1 to 100, with its own: 0, 1 or 2. The main thread receives
-//! all of them, and checks that those of each worker came in order. It prints how many there were
-//! and their sum, with status 0. If they weren't in order it says so, with status 1; if memory or
-//! threads ran out, with status 3. Status 4: it couldn't print.
+//! Status 1: a worker's messages came out of order. 3: no memory or thread. 4: it couldn't print.
 #![tactic(auto)]
 
 mod in_order;
-#[cfg(test)]
-mod rows;
 
 use flume::{Receiver, Runtime, Sender, Waits};
 use in_order::{MESSAGES, WORKERS, in_order};
@@ -23,7 +19,6 @@ fn main(rt: HostRuntime) -> ExitCode {
     ExitCode::from(report(gather(rt), &mut io::writer(&rt)))
 }
 
-/// Starts the workers, and returns what they sent.
 fn gather<R: Runtime>(rt: R) -> io::Result<Vec<Message>> {
     let (tx, mailbox) = flume::on(rt).bounded(1)?;
     let mut workers = Vec::new(rt.alloc());
@@ -31,7 +26,6 @@ fn gather<R: Runtime>(rt: R) -> io::Result<Vec<Message>> {
         let tx = tx.clone()?;
         workers.push(thread::spawn(&rt, move || send_all(&tx, worker))?)?;
     }
-    // From here on no worker waits while fewer than eight messages do.
     mailbox.set_capacity(8)?;
     // The workers have clones of this one. The channel closes when the last clone is dropped.
     drop(tx);
@@ -59,7 +53,7 @@ fn receive_all<R: Runtime>(rt: &R, mailbox: &Receiver<Message, R>) -> io::Result
     Ok(all)
 }
 
-/// Writes the result, and answers the status. An error is one of memory or threads.
+/// Writes the result, and answers the status.
 fn report<W: Write>(gathered: io::Result<Vec<Message>>, output: &mut W) -> u8 {
     let (written, status) = match gathered {
         Err(_) => (output.write_all(b"out of memory\n"), 3),

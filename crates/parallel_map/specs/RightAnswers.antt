@@ -30,16 +30,13 @@ module _ {I R J : Type 0} (steps : I → Option R → I → Type 0) (at : R → 
   -- the error that an iterator's answers bring
   pub data Brings (jobs : List J) (answers : I) : WorkError → Type 0 where
     OutOfMemory : Brings jobs answers NoMemory
-    -- after right answers came one that is to no job of the list
     IsUnknown : (before : List R) (last : R) (rest : I)
         → Yields steps answers (before ++ last ∷ []) rest → AreRight jobs (map at before)
         → (IsTo jobs (at last) → ⊥) → Brings jobs answers (Unknown (at last).0)
-    -- after right answers came one to a job that one of them is to
     IsDoubled : (before : List R) (last : R) (rest : I)
         → Yields steps answers (before ++ last ∷ []) rest → AreRight jobs (map at before)
         → IsTo jobs (at last) → times (at last).0 (map at before) ≡ 1
         → Brings jobs answers (Doubled (at last).0)
-    -- all are right, and this is the first job that has none
     IsMissing : (all : List R) (number : ℕ) → Drains steps answers all
         → AreRight jobs (map at all) → number < length jobs → times number (map at all) ≡ 0
         → ((lower : ℕ) → lower < number → times lower (map at all) ≡ 1)

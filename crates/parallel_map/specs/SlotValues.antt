@@ -32,16 +32,13 @@ module _ {V : Type 0} where
     -- why an answer isn't put into its place
     pub data IsRefused (jobs : List J) (places : List (Option V)) (answer : ℕ × J)
         : WorkError → Type 0 where
-      -- it is to no job of the list
       NoJob : (IsTo jobs answer → ⊥) → IsRefused jobs places answer (Unknown answer.0)
-      -- its place has a value
       NotEmpty : IsTo jobs answer → held places answer.0 ≡ 1
           → IsRefused jobs places answer (Doubled answer.0)
 
     -- why the places don't give the values of all jobs
     pub data Lacks (jobs : List J) (places : List (Option V)) : WorkError → Type 0 where
       NoRoom : Lacks jobs places NoMemory
-      -- this is the first place that is empty
       FirstEmpty : (number : ℕ) → number < length jobs → held places number ≡ 0
           → ((lower : ℕ) → lower < number → held places lower ≡ 1)
           → Lacks jobs places (Missing number)

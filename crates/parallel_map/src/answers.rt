@@ -12,10 +12,8 @@ use crate::work::Work;
 use std::alloc::Global;
 
 /// The values of all jobs, in the order of the jobs. Each answer is compared with the list, so the
-/// iterator needn't be trusted. `Unknown`: an answer is to no job. `Doubled`: a second one is to
-/// the same job. It stops at the first of these. `Missing`: the iterator ended, and this is the
-/// first job without an answer.
-///
+/// iterator needn't be trusted. It stops at the first that is `Unknown` or `Doubled`. `Missing` has
+/// the first job without an answer.
 /// ```
 /// let mixed = [Answer::of(&Square, 1, 3), Answer::of(&Square, 0, 2)];
 /// let answers = Vec::from_array(alloc, mixed)?;
@@ -44,9 +42,8 @@ pub fn collect<W: Work, I: Iterator<Item = Answer<W>> + Drop>(
     in_order(alloc, slots)
 }
 
-/// The number of a job of the value `true`: that of the first answer with this value. `None`: there
-/// is no such job. The errors are those of `collect`.
-///
+/// The number of the job of the first answer with the value `true`. `None`: no job has this value.
+/// The errors are those of `collect`.
 /// ```
 /// let answers = Vec::from_array(alloc, [Answer::of(&IsEven, 1, 8)])?;
 /// let found = position(alloc, &[7, 8, 9], answers.into_iter())?;
@@ -82,7 +79,7 @@ pub fn position<W: Work<Value = bool>, I: Iterator<Item = Answer<W>> + Drop>(
 #[tactic(auto, using(crate::proofs::PlaceLemmas::take_found))]
 fn in_order<W: Work>(alloc: Global, slots: Slots<'_, W>) -> Result<Vec<W::Value>, WorkError>
     ensures values { IfOk result (λ values. values.items ≡ map W.meaning slots.entry.jobs.now) }
-    ensures missing { IfErr result (Lacks slots.entry.jobs.now slots.entry.values.items) }
+    ensures lacks { IfErr result (Lacks slots.entry.jobs.now slots.entry.values.items) }
 {
     let mut slots = slots;
     let mut values = Vec::new(alloc);

@@ -7,7 +7,6 @@ use std::thread::SpawnError;
 use std::{fmt, io};
 
 /// Why there is no result. With a correct channel none of the last three comes.
-///
 /// ```
 /// let none = Vec::<Answer<Square>>::new(alloc);
 /// let values = collect(alloc, &[2, 3], none.into_iter());
@@ -39,7 +38,6 @@ impl WorkError {
     }
 }
 
-/// Padded and cut as text is.
 impl fmt::Display for WorkError {
     fn fmt<W: fmt::Write>(&self, f: &mut fmt::Formatter<W>) -> fmt::Result {
         f.pad(self.text())
@@ -48,7 +46,6 @@ impl fmt::Display for WorkError {
 
 impl Error for WorkError {}
 
-/// `OutOfMemory`, `WouldBlock` if there was no thread, or `InvalidData`.
 impl From<WorkError> for io::Error {
     fn from(e: WorkError) -> io::Error {
         let kind = match e {

@@ -9,7 +9,6 @@ use crate::error::WorkError;
 use crate::work::Work;
 use std::alloc::Global;
 
-/// A way to make a result of the answers.
 pub(crate) trait Gather<W: Work> {
     type Result: Drop;
 

@@ -9,9 +9,7 @@ use crate::work::Work;
 use flume::Runtime;
 
 /// The values of all jobs, in the order of the jobs, by this many threads, at least one, and
-/// another one that hands out the jobs. All have ended when it returns. The errors are those of
-/// [`WorkError`].
-///
+/// another one that hands out the jobs. All have ended when it returns.
 /// ```
 /// let squares = parallel_map(rt, &Square, &[1, 2, 3], 2)?;
 /// assert_eq!(rt; squares.as_slice(), [1, 4, 9].as_slice());
@@ -30,12 +28,8 @@ where
     by_threads(rt, work, jobs, workers, &Values)
 }
 
-/// The number of some job of the value `true`, by threads as of `parallel_map`. `None`: there is
-/// none.
-///
-/// Once it knows the number it drops its receiver. Then the workers' sends answer `Disconnected`,
-/// and all threads end.
-///
+/// The number of some job of the value `true`, if there is one, by threads as of `parallel_map`.
+/// Once one is found the receiver is dropped, so that all threads end.
 /// ```
 /// let found = position_any(rt, &IsEven, &[7, 8, 9], 2)?;
 /// assert_eq!(rt; found, Some(1));

@@ -10,7 +10,6 @@ use crate::error::WorkError;
 use crate::work::Work;
 use std::alloc::{AllocError, Global};
 
-/// The jobs of a list, and the values that came so far.
 #[derive(Drop)]
 pub(crate) struct Slots<'a, W: Work> {
     pub(crate) jobs: &'a [W::Job],
@@ -32,9 +31,9 @@ impl<'a, W: Work> Slots<'a, W> {
         ensures value { OnOk result (slice_get (map W.meaning self.old.jobs.now) answer.number
             ≡ Some answer.value) }
         ensures right { OnOk result (IsTo self.old.jobs.now (answer.number, answer.job)) }
-        ensures placed { OnOk result (Places self.old.values.items answer.number
+        ensures places { OnOk result (Places self.old.values.items answer.number
             self.new.values.items) }
-        ensures refused { IfErr result (IsRefused self.old.jobs.now self.old.values.items
+        ensures is_refused { IfErr result (IsRefused self.old.jobs.now self.old.values.items
             (answer.number, answer.job)) }
     {
         let Answer { number, job, value } = answer;
@@ -46,7 +45,7 @@ impl<'a, W: Work> Slots<'a, W> {
     fn look(&self, number: usize, job: W::Job) -> Result<(), WorkError>
         ensures right { OnOk result (IsTo self.now.jobs.now (number, job)) }
         ensures empty { OnOk result (slice_get self.now.values.items number ≡ Some None) }
-        ensures refused { IfErr result (IsRefused self.now.jobs.now self.now.values.items
+        ensures is_refused { IfErr result (IsRefused self.now.jobs.now self.now.values.items
             (number, job)) }
     {
         if number >= self.jobs.len() || self.jobs[number] != job {

@@ -12,7 +12,6 @@ use std::thread::{JoinHandle, Threads};
 
 const CAPACITY: usize = 16;
 
-// What a thread returns.
 type Ended = Result<(), NoMemory>;
 
 /// Another thread hands out the jobs, since this one, which receives the answers, can't wait for

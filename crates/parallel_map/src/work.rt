@@ -1,12 +1,9 @@
 //! What is done for each job.
 ghost use Rattle.std.specs.Prelude.{◌≡◌, true};
 
-/// A kind of work. The value is a function of the job alone (`meaning`). So it is a plain value, as
-/// a number: what has memory of its own, as a `Vec`, isn't determined by its job.
-///
-/// Jobs that are equal by `==` have to be the same (`exact`), since the receiver of an answer
-/// compares them so. For numbers the prover finds that.
-///
+/// A kind of work. The value is a function of the job alone (`meaning`), as a number: what has
+/// memory of its own, as a `Vec`, isn't determined by its job. Jobs that are equal by `==` have to
+/// be the same (`exact`), which the prover finds for numbers.
 /// ```
 /// // The square of a number.
 /// struct Square;
@@ -26,10 +23,8 @@ ghost use Rattle.std.specs.Prelude.{◌≡◌, true};
 /// }
 /// ```
 pub trait Work {
-    /// What is asked.
     type Job: Copy + Eq;
 
-    /// What comes of it.
     type Value: Drop;
 
     ghost meaning: { Self.Job → Self.Value };

@@ -1,5 +1,4 @@
-//! What no clause says: right answers are taken, each job is done once, and which error wrong
-//! answers are.
+//! What no clause says: right answers are taken, each job is done once, wrong answers are errors.
 ghost use Rattle.std.specs.Prelude.{◌%◌, ◌==◌};
 ghost use Rattle.std.proofs.Common.{rules};
 
@@ -94,7 +93,6 @@ fn a_search_finds_the_one_job_at_each_place(rt: HostRuntime) -> Result<(), Fail>
     Ok(())
 }
 
-// The result of the jobs 10, 20 and 30 by answers with these numbers and jobs.
 fn collect_answers(
     alloc: Global,
     answers_to: &[(usize, u64)],

@@ -56,7 +56,6 @@ fn main(rt: HostRuntime) -> io::Result<()> {
     println!(rt; "a divisor of 8051: {divisor:?}")
 }
 
-/// The squares of the numbers, in their order.
 fn squares<R: Runtime>(rt: R, numbers: &[u32]) -> Result<Vec<u64>, WorkError>
     ensures squares { IfOk result (λ squares. squares.items ≡ map (λ n. n * n) numbers.now) }
 {

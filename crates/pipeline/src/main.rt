@@ -1,6 +1,4 @@
 //! Three threads in a row: one sends squares, one what they come to so far, one the means of these.
-//!
-//! Each channel holds two messages, so a thread that is ahead waits for the next one.
 #![tactic(auto)]
 
 ghost use Rattle.std.specs.Prelude.{◌≤◌};
@@ -8,7 +6,7 @@ ghost use Rattle.std.specs.Prelude.{◌≤◌};
 use flume::{Receiver, Sender, Waits};
 use std::{io, thread};
 
-/// The sum of some numbers, and how many they are: at least one.
+/// The sum of some numbers.
 #[derive(Drop)]
 struct Total {
     sum: u64,
@@ -34,8 +32,7 @@ fn main(rt: HostRuntime) -> io::Result<()> {
     counting.join(&rt)
 }
 
-/// Sends the squares of the numbers from 1 to 10. Then the sender is dropped, and the next stage
-/// ends.
+/// Sends the squares of 1 to 10. Then the only sender is dropped, and the next stage ends.
 fn count<R: Waits>(squares: &Sender<u64, R>) -> io::Result<()> {
     for number in 1..=10u64 {
         squares.send(number.saturating_mul(number))?;
@@ -43,7 +40,6 @@ fn count<R: Waits>(squares: &Sender<u64, R>) -> io::Result<()> {
     Ok(())
 }
 
-/// Sends, for each number that it receives, the total of all so far.
 fn add<R: Waits>(numbers: &Receiver<u64, R>, totals: &Sender<Total, R>) -> io::Result<()> {
     let (mut sum, mut count) = (0u64, 0u64);
     let mut numbers = numbers.iter();
@@ -55,8 +51,7 @@ fn add<R: Waits>(numbers: &Receiver<u64, R>, totals: &Sender<Total, R>) -> io::R
     Ok(numbers.ended()?)
 }
 
-/// Sends the mean of each total that it receives, rounded down. No total is of no number: that came
-/// through the channel with the type, so the division is proved.
+/// Sends the mean of each total. That none is of no number comes with the type through the channel.
 fn divide<R: Waits>(totals: &Receiver<Total, R>, means: &Sender<u64, R>) -> io::Result<()> {
     let mut totals = totals.iter();
     for total in totals.by_ref() {

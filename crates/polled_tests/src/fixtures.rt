@@ -1,5 +1,4 @@
-//! What several tests use. What can't be had fails the test here: a `?` in a test costs the prover
-//! a second, and an abort none.
+//! What can't be had aborts a test here: a `?` in a test costs the prover a second.
 use crate::runtime::TestRuntime;
 use flume::{Receiver, Sender, Waits};
 use futures::Future;
@@ -17,12 +16,10 @@ pub(crate) fn is<T: Debug + PartialEq + Drop>(rt: &impl Abort, answer: T, wanted
     assert_eq!(rt; answer, wanted);
 }
 
-/// The result of a call that fails for memory or threads alone.
 pub(crate) fn unwrap<T, E: Debug + Drop>(rt: &impl Abort, answer: Result<T, E>) -> T {
     answer.expect(rt, "the system gives what is asked for")
 }
 
-/// The ends of a new channel of numbers, of this capacity: `None` is unbounded.
 pub(crate) fn channel<R: Waits + Abort>(
     rt: R,
     alloc: Global,
@@ -58,7 +55,6 @@ impl<R: Waits + Abort> Work for Stuck<R> {
     }
 }
 
-/// Starts the watchdog of a test.
 pub(crate) fn start_watchdog<R: TestRuntime>(rt: R, alloc: Global) -> Watchdog {
     match start_watchdog_with(rt, alloc, Stuck(rt)) {
         Ok(watchdog) => watchdog,

@@ -1,6 +1,5 @@
-//! Tests of what executors poll: many futures and streams of one channel, long orders, a stream
-//! that is forwarded into a sink, and a task whose message another receiver takes. Single polled
-//! calls are in `end_scripts`, and with other threads in `thread_scripts`.
+//! Tests of what executors poll, many calls at once. Single polled calls are in `end_scripts`, and
+//! with other threads in `thread_scripts`.
 #![tactic(auto)]
 
 #[cfg(test)]

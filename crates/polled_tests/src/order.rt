@@ -1,4 +1,4 @@
-//! Futures and streams keep the order of messages: from another thread, and on one thread.
+//! Futures and streams keep the order of messages.
 use crate::fixtures::{channel, is, run, spawn, start_watchdog, unwrap};
 use crate::numbers::Numbers;
 use crate::runtime::{SendUpTo, TestRuntime};

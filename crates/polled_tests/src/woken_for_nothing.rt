@@ -101,8 +101,7 @@ struct Test<R: TestRuntime> {
 }
 
 impl<R: TestRuntime> Test<R> {
-    // Sends a message to the waiting task, and tries to take it first. If it could, the task was
-    // woken, found nothing and waits again.
+    // Whether a message for the waiting task was taken before the task: then that waits again.
     fn overtakes(&self, rt: &R, number: u64) -> bool {
         let waits = self.report.waits.load(Ordering::SeqCst);
         let _ = self.tx.send(number);

@@ -14,7 +14,7 @@ use Rattle.flume_calls.specs.declared.calls.receive.RecvNext.TheVariants.{Done, 
 use Rattle.flume_calls.specs.declared.calls.receive.RecvNext.TheVariants.{Refused}
 use Rattle.flume_calls.specs.ReceiveTurns.{after_try_recv, after_recv, after_parked_receive}
 use Rattle.flume_calls.specs.ReceiveTurns.{step_of_parked_receive}
-use Rattle.flume_calls.specs.ReceiveGates.{ParkedReceive, Asked, Withdrawn, Late, Waited}
+use Rattle.flume_calls.specs.ReceiveGates.{ParkedReceive, Asked, Withdrawn, Expired, Waited}
 use Rattle.flume_calls.specs.ReceiveGates.{WholeReceive, AtFirst, NoWaiter, AtPark, Parked}
 use Rattle.flume_calls.specs.ReceiveGates.{got_or_no_memory}
 use Rattle.proved_callers.specs.LocalSends.{Leads, Makes}
@@ -121,7 +121,7 @@ module _ {G T S : Type 0} (A : Type 0) (at : G → State T S) where
       let last = after_refusal _ same _ made.reply (again_turn _ true made) in
       rw is (after_wait (IsLast _) polls ([], λ o log s. s) (again_turn _ false polls)
       (by_turn made last))
-  parked_ended {result = result} (Late polls waits made) =
+  parked_ended {result = result} (Expired polls waits made) =
       after_wait (IsLast result) polls waits (again_turn _ false polls)
       (by_turn made (again_turn _ true made))
   parked_ended {result = result} (Waited polls waits rest) =

@@ -13,8 +13,8 @@ use Rattle.flume_model.specs.Line.{line, boundary, blocked, next_ticket}
 use Rattle.flume_model.specs.Channel.{channel, has_ticket, IsBlocked}
 use Rattle.flume_model.specs.Replies.{IsRun}
 use Rattle.flume_model.specs.Laws.{Rising}
-use Rattle.flume_model.proofs.Tickets.{apart, All-at_seam}
-use Rattle.flume_model.proofs.order.Runs.{tickets_rise}
+use Rattle.flume_model.proofs.TicketLemmas.{apart, All-at_seam}
+use Rattle.flume_model.proofs.order.RunLemmas.{tickets_rise}
 
 module _ {T A : Type 0} where
   -- the offers of a log that others made longer begin as they did

@@ -15,7 +15,7 @@ use Rattle.flume_calls.specs.declared.calls.send.SendNext.{SendNext}
 use Rattle.flume_calls.specs.declared.calls.send.SendNext.TheVariants.{Done, NeedSignal, Park}
 use Rattle.flume_calls.specs.SendTurns.{after_try_send, after_send, after_parked_send}
 use Rattle.flume_calls.specs.SendTurns.{step_of_parked_send}
-use Rattle.flume_calls.specs.SendGates.{ParkedSend, Asked, Late, Waited}
+use Rattle.flume_calls.specs.SendGates.{ParkedSend, Asked, Expired, Waited}
 use Rattle.flume_calls.specs.SendGates.{WholeSend, AtFirst, NoWaiter, AtPark, Parked}
 use Rattle.proved_callers.specs.LocalSends.{Leads, Makes, IsAcceptedSend, blocking_steps, First, Second, Later}
 use Rattle.proved_callers.specs.LocalSends.{IsSent, IsTakenBack}
@@ -121,7 +121,7 @@ module _ {G T S : Type 0} (A : Type 0) (at : G → State T S) where
       → ParkedSend Agains (InWait A at) old ticket new result
       → Ended (at old) (at new) (IsLast {A = A} result ticket)
   parked_ended (Asked made) = by_turn made (again_turn _ false made)
-  parked_ended {result = result} (Late polls waits made) =
+  parked_ended {result = result} (Expired polls waits made) =
       after_wait (IsLast result) polls waits (again_turn _ false polls)
       (by_turn made (again_turn _ true made))
   parked_ended {result = result} (Waited polls waits rest) =

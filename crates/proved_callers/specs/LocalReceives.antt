@@ -22,11 +22,8 @@ module _ {T A : Type 0} where
 
   -- the steps of a receive that got this message
   pub data Gets (message : T) : Log T A → Type 0 where
-    -- by the first step
     First : Gets message ((TryRecv, Got message) ∷ [])
-    -- by the step that may park
     Second : Gets message ((Recv Block, Got message) ∷ (TryRecv, Empty) ∷ [])
-    -- after it parked
     Later : (ticket : ℕ) (others : Log T A) (step : Step T) → IsOfReceiver ticket step
         → Gets message ((step, Got message) ∷ others ++ parking_steps ticket)
 

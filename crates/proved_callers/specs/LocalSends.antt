@@ -10,8 +10,7 @@ use Rattle.flume_state.specs.State.{State}
 use Rattle.flume_core.specs.Represents.{Represents}
 
 module _ {T S A : Type 0} where
-  -- each log that represented the state before represents the state after with these steps, the
-  -- last one first
+  -- a log of the state before is one of the state after with these steps, the last one first
   abbrev pub Leads : State T S → Log T A → State T S → Type 0
   Leads old steps new =
       (opening : Opening) (log : Log T A) → Represents opening log old
@@ -45,12 +44,9 @@ module _ {T A : Type 0} where
 
   -- the steps of a send whose message was taken in
   pub data Offers (message : T) : Log T A → Type 0 where
-    -- by the first step
     First : (filled : Option ℕ) → Offers message ((TrySend message, Sent filled) ∷ [])
-    -- by the step that may block
     Second : (filled : Option ℕ)
         → Offers message ((Send message, Sent filled) ∷ (TrySend message, Full message) ∷ [])
-    -- after it blocked
     Later : (ticket : ℕ) (others : Log T A) (step : Step T) (reply : Reply T A)
         → IsAcceptedSend ticket step reply
         → Offers message ((step, reply) ∷ others ++ blocking_steps message ticket)

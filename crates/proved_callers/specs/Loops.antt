@@ -18,8 +18,7 @@ abbrev pub sum_of : List ℕ → ℕ
 sum_of messages = sum_by (λ message. message) messages
 
 module _ {A : Type 0} where
-  -- These steps were made on the channel, and no others. The theorem holds of the log with them,
-  -- and this is the sum of the messages that they gave out, modulo 2 ^ 64.
+  -- these steps were made, the theorem holds of the log with them, and the sum is of what came
   pub record HasPassed (opening : Opening) (log : Log ℕ A) (count : ℕ) (s : State ℕ (Unit {0}))
       (sum : ℕ) : Type 0 where
     pub steps : Log ℕ A

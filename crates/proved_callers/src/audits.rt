@@ -11,8 +11,7 @@ use flume_model::step::{Reply, Step};
 use std::alloc::Allocator;
 use std::sync::ledger::Ledger;
 
-/// Ends an audit, and answers its book if it settled. Then the history has as many steps as there
-/// are receipts.
+/// Ends an audit, and answers its book if it settled.
 pub fn settled_book<T, L, R, A>(
     audit: Audit<T, L, R, Ones, A>,
     seats: Vec<Seat<T, L, Ones, A>, A>,
@@ -22,7 +21,7 @@ where
     L: Ledger,
     R: Drop,
     A: Allocator + Copy,
-    ensures settled { IfSome result (λ book.
+    ensures is_settled { IfSome result (λ book.
         IsSettled ⟦<(Step<T>, Reply<T, A>) as PartialEq>⟧.eq book.history seats.items) }
     ensures same_length { IfSome result (λ book. length book.history ≡ sum_by length seats.items) }
 {

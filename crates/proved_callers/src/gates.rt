@@ -21,9 +21,7 @@ use std::sync::Wait;
 /// What another does while the call waits.
 #[derive(Clone, Copy, Drop)]
 pub enum Other {
-    /// It tries to receive.
     TryRecv,
-    /// It drops a sender.
     DropSender,
 }
 
@@ -61,7 +59,6 @@ impl<T: Drop, A: Allocator + Copy> LocalGate<T, A> {
         }
     }
 
-    // True if the other has no step to make.
     fn let_other(&mut self) -> bool
         ensures does { Others A self.old.locked self.new.locked }
     {
@@ -94,16 +91,16 @@ impl<T: Drop, A: Allocator + Copy> SendGate<T> for LocalGate<T, A> {
 
     type Signal = u64;
 
-    ghost firsts = { λ old message new answer.
+    ghost first_turn = { λ old message new answer.
         Makes A (TrySend message) after_try_send old.locked new.locked answer };
 
     ghost makes = { λ old new answer. new.locked ≡ old.locked };
 
-    ghost parks = { λ old message new answer.
+    ghost parking_turn = { λ old message new answer.
         Makes A (Send message) after_send old.locked new.locked answer };
 
-    ghost agains = { λ old ticket late new answer. Makes A (step_of_parked_send ticket late)
-        (after_parked_send ticket late) old.locked new.locked answer };
+    ghost parked_turn = { λ old ticket last new answer. Makes A (step_of_parked_send ticket last)
+        (after_parked_send ticket last) old.locked new.locked answer };
 
     ghost waits = { λ old new answer. Others A old.locked new.locked };
 
@@ -120,10 +117,10 @@ impl<T: Drop, A: Allocator + Copy> SendGate<T> for LocalGate<T, A> {
             .make(ParkSend { message, signal }, &mut self.bell)
     }
 
-    fn again(&mut self, call: SendCall, late: bool) -> SendNext<T> {
+    fn again(&mut self, call: SendCall, last: bool) -> SendNext<T> {
         let signal = None;
         self.locked
-            .make(AgainSend { call, late, signal }, &mut self.bell)
+            .make(AgainSend { call, last, signal }, &mut self.bell)
     }
 
     fn wait(&mut self, _waiter: &()) -> bool {
@@ -144,16 +141,16 @@ impl<T: Drop, A: Allocator + Copy> RecvGate<T> for LocalGate<T, A> {
 
     type Signal = u64;
 
-    ghost firsts = { λ old new answer.
+    ghost first_turn = { λ old new answer.
         Makes A TryRecv after_try_recv old.locked new.locked answer };
 
     ghost makes = { λ old new answer. new.locked ≡ old.locked };
 
-    ghost parks = { λ old new answer.
+    ghost parking_turn = { λ old new answer.
         Makes A (Recv Block) after_recv old.locked new.locked answer };
 
-    ghost agains = { λ old ticket late new answer. Makes A (step_of_parked_receive ticket late)
-        (after_parked_receive ticket late) old.locked new.locked answer };
+    ghost parked_turn = { λ old ticket last new answer. Makes A (step_of_parked_receive ticket last)
+        (after_parked_receive ticket last) old.locked new.locked answer };
 
     ghost waits = { λ old new answer. Others A old.locked new.locked };
 
@@ -173,10 +170,10 @@ impl<T: Drop, A: Allocator + Copy> RecvGate<T> for LocalGate<T, A> {
             .make(ParkReceive { kind, signal }, &mut self.bell)
     }
 
-    fn again(&mut self, call: RecvCall, late: bool) -> RecvNext<T> {
+    fn again(&mut self, call: RecvCall, last: bool) -> RecvNext<T> {
         let signal = None;
         self.locked
-            .make(AgainReceive { call, late, signal }, &mut self.bell)
+            .make(AgainReceive { call, last, signal }, &mut self.bell)
     }
 
     fn wait(&mut self, _waiter: &()) -> bool {
@@ -184,30 +181,28 @@ impl<T: Drop, A: Allocator + Copy> RecvGate<T> for LocalGate<T, A> {
     }
 }
 
-/// A send through the gate. `Ok`: its message isn't blocked any more. `Timeout`: its message was
-/// blocked, and its last step took it back.
+/// A send through the gate. `Timeout`: its last step took the message back.
 pub fn send_through<T: Drop, A: Allocator + Copy, R: Wait>(
     rt: &R,
     gate: &mut LocalGate<T, A>,
     message: T,
 ) -> Result<(), SendTimeoutError<T>>
-    ensures sent { result ≡ Ok tt → IsSent A message gate.old.locked gate.new.locked }
-    ensures taken_back { (back : T) → result ≡ Err (Timeout back)
+    ensures is_sent { result ≡ Ok tt → IsSent A message gate.old.locked gate.new.locked }
+    ensures is_taken_back { (back : T) → result ≡ Err (Timeout back)
         → IsTakenBack A message back gate.old.locked gate.new.locked }
 {
     gate.locked.facts();
     send_over(rt, gate, message)
 }
 
-/// A receive through the gate. `Ok`: its last step gave it the message. `Timeout`: it was parked,
-/// and left by its last step with no message.
+/// A receive through the gate. `Timeout`: its last step withdrew it, with no message.
 pub fn receive_through<T: Drop, A: Allocator + Copy, R: Wait>(
     rt: &R,
     gate: &mut LocalGate<T, A>,
 ) -> Result<T, RecvTimeoutError>
-    ensures received { (message : T) → result ≡ Ok message
+    ensures is_received { (message : T) → result ≡ Ok message
         → IsReceived A message gate.old.locked gate.new.locked }
-    ensures given_up { result ≡ Err Late → IsGivenUp A gate.old.locked gate.new.locked }
+    ensures is_given_up { result ≡ Err Late → IsGivenUp A gate.old.locked gate.new.locked }
 {
     recv_over(rt, gate)
 }

@@ -11,8 +11,7 @@ use flume_core::run::headline_of_steps;
 use flume_model::step::{Reply, Step};
 use std::alloc::Allocator;
 
-/// Sends each number below this one, and receives after each. Answers the sum of what was received.
-/// The theorem holds of the channel's run with these steps after it.
+/// Sends each number below this one, receives after each, and answers the sum of what came.
 pub fn pass_all<A: Allocator + Copy>(chan: &mut Chan<u64, (), A>, count: u64) -> u64
     ensures passed { (opening : Opening) (log : Log ℕ A) → Represents opening log chan.old
         → HasPassed opening log count chan.new result }
@@ -20,13 +19,13 @@ pub fn pass_all<A: Allocator + Copy>(chan: &mut Chan<u64, (), A>, count: u64) ->
     let mut sum = 0u64;
     for number in 0..count {
         chan.try_send(number);
-        sum = sum.wrapping_add(received(chan));
+        sum = sum.wrapping_add(receive_one(chan));
     }
     headline_of_steps(chan);
     sum
 }
 
-fn received<A: Allocator + Copy>(chan: &mut Chan<u64, (), A>) -> u64
+fn receive_one<A: Allocator + Copy>(chan: &mut Chan<u64, (), A>) -> u64
     ensures step { (reply : Reply ℕ A) × Extends chan.old Step.TryRecv reply chan.new
         × (sum_of (gives reply) ≡ result) }
 {

@@ -8,8 +8,7 @@ use futures::task::{Context, Poll};
 use std::alloc::Allocator;
 
 /// Polls a send once. `Some(None)`: its message was taken in. `Some(Some(back))`: its message comes
-/// back. `None`: it was pending, and the future was dropped, with its message if that wasn't taken
-/// in by then.
+/// back. `None`: it was pending, and is dropped.
 pub fn poll_once<T: Drop, R: Waits, A: Allocator + Copy>(
     tx: &Sender<T, R, A>,
     message: T,

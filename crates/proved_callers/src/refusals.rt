@@ -15,8 +15,7 @@ pub fn offer<T: Drop, R: Waits, A: Allocator + Copy>(tx: &Sender<T, R, A>, messa
     }
 }
 
-/// Offers messages from the front on until one comes back, which is answered. The rest stays in the
-/// queue.
+/// Offers messages from the front on until one comes back, which is answered.
 pub fn offer_all<T: Drop, R: Waits, A: Allocator + Copy>(
     tx: &Sender<T, R, A>,
     messages: &mut VecDeque<T, A>,

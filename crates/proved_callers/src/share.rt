@@ -27,8 +27,7 @@ impl Share {
     }
 }
 
-/// Receives a share, and says how many hundredths it is. Every share has its type's invariant, so
-/// the division can't fail.
+/// Receives a share, and says how many hundredths it is.
 pub fn receive_hundredths<R: Waits, A: Allocator + Copy>(
     rx: &Receiver<Share, R, A>,
 ) -> Result<u64, RecvError>

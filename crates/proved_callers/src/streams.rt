@@ -7,8 +7,7 @@ use futures::future::ready;
 use std::io;
 use std::random::RandomSource;
 
-/// Doubles the numbers above 3, and sends them on until all senders have been dropped. An error: an
-/// allocation failed, or all receivers have been dropped.
+/// Doubles the numbers above 3, and sends them on until all senders have been dropped.
 pub fn double_large<R>(rt: &R, numbers: Receiver<u64, R>, answers: Sender<u64, R>) -> io::Result<()>
 where
     R: Runtime + RandomSource,

@@ -1,6 +1,6 @@
-//! What the program is asked for.
+//! The arguments of the program.
 
-/// How many recordings, of how many threads, with how many calls each.
+/// How many recordings, threads, and calls in each recording.
 #[derive(Clone, Copy, Drop)]
 pub struct Arguments {
     pub recordings: u64,
@@ -10,7 +10,7 @@ pub struct Arguments {
     pub limit: u64,
 }
 
-/// What the words ask for.
+/// What the program is asked for.
 #[derive(Clone, Copy, Drop)]
 pub enum Request {
     Runs(Arguments),
@@ -37,7 +37,6 @@ impl Arguments {
         }
     }
 
-    // `None`: a word is no number, here and below.
     fn of(words: &[String]) -> Option<Arguments> {
         Some(Arguments {
             recordings: number_at(words, 0, 200)?,

@@ -10,10 +10,8 @@ use std::hint::spin_loop;
 use std::thread;
 use std::time::Duration;
 
-/// A thread: its first ends, which its futures borrow, its other ends, and a future of each kind.
-///
-/// It blocks in a send only if it has no receiver, and in a receive only if it has no sender. So a
-/// correct channel frees it once the other threads have dropped their ends.
+/// A thread, with its first ends, which its futures borrow. It blocks only in a send without a
+/// receiver, or in a receive without a sender: other threads' drops of their ends free it.
 #[derive(Drop)]
 pub struct Caller<'e, 'h, R: Waits> {
     recorder: Recorder<u64>,
@@ -71,7 +69,7 @@ impl<'e, 'h, R: Waits> Caller<'e, 'h, R> {
         recorder
     }
 
-    // Waits a little or not at all, so that each run has another schedule.
+    // Each run has another schedule.
     fn pause(&mut self) {
         match self.random.below(8) {
             0 => thread::yield_now(),
@@ -149,7 +147,6 @@ impl<'e, 'h, R: Waits> Caller<'e, 'h, R> {
         }
     }
 
-    // Asks an end a query, or sets the capacity.
     fn query(&mut self, sends: bool) {
         let (number, capacity) = (self.random.below(9), self.random.below(4) as usize);
         let recorder = &mut self.recorder;
@@ -202,8 +199,6 @@ impl<'e, 'h, R: Waits> Caller<'e, 'h, R> {
         }
     }
 
-    // Polls its pending send or receive, or a new one. One that stays pending is dropped in one of
-    // two cases.
     fn poll_future(&mut self, task: &MockTask, sends: bool) {
         if sends {
             self.poll_send(task);
@@ -259,5 +254,4 @@ fn query_end<E: End>(recorder: &mut Recorder<u64>, end: &E, number: u64, capacit
     }
 }
 
-// The recording has the answer.
 fn ignore<T: Drop>(_answer: T) {}

@@ -1,4 +1,4 @@
-//! The types of the ends, and the allocator of a channel.
+//! The types of a channel's ends and allocator.
 
 use flume::polled::{RecvFut, SendFut};
 use flume::{Receiver, Sender};
@@ -6,7 +6,7 @@ use flume_recorder::RecordedFuture;
 use std::alloc::Global;
 use test_support::counting::Counting;
 
-/// The allocator of a channel. It refuses memory now and then.
+/// Refuses memory now and then.
 pub type Heap<'h> = &'h Counting<Global>;
 
 /// A sender of a channel.

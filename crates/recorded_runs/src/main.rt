@@ -1,5 +1,4 @@
-//! Records what threads do on a channel, run after run, and checks whether a correct channel could
-//! have given these answers.
+//! Records the calls of threads on channels, and checks the answers.
 #![tactic(auto)]
 
 mod arguments;
@@ -14,6 +13,7 @@ use crate::arguments::{Arguments, Request};
 use crate::run::{Run, Verdict, judge};
 use crate::tally::Tally;
 use flume::Runtime;
+use flume_explain::explain::Checked;
 use flume_recorder::write_recording;
 use std::process::ExitCode;
 use std::random::RandomSource;
@@ -63,10 +63,10 @@ fn run_all<R: Runtime + RandomSource + Print + Eprint>(
             }
         };
         match judge(rt.alloc(), &run, arguments.limit) {
-            Verdict::Explained => tally.count_explained(),
-            Verdict::GaveUp => tally.count_given_up(),
-            Verdict::NoMemory => return no_memory(rt),
-            verdict => return print_wrong(rt, number, verdict, &run),
+            Checked::Explained => tally.count_explained(),
+            Checked::GaveUp(_) => tally.count_given_up(),
+            Checked::NoMemory => return no_memory(rt),
+            checked => return print_wrong(rt, number, Verdict(checked), &run),
         }
     }
     print_tally(rt, arguments, &tally)

@@ -1,4 +1,4 @@
-//! A run of threads on a channel, and what a search says of its recording.
+//! Runs of threads on a channel, and the verdicts on what they record.
 
 use crate::arguments::Arguments;
 use crate::ends::{Heap, TestReceiver, TestSender};
@@ -16,13 +16,11 @@ use std::{fmt, thread};
 use test_support::counting::Counting;
 use test_support::ends::open;
 
-// One request in this many is refused, on a channel that is refused memory.
 const REFUSED: u64 = 12;
 
 /// What a run recorded.
 #[derive(Drop)]
 pub struct Run {
-    /// The capacity of its channel.
     pub capacity: Option<usize>,
     /// In the order of time.
     pub events: Vec<Event<u64>>,
@@ -66,44 +64,30 @@ impl From<RecordingError> for Fault {
 
 /// What a search for an explanation came to.
 #[derive(Clone, Copy, Drop)]
-pub enum Verdict {
-    Explained,
-    /// This many events are, and with the next one they aren't.
-    Breaks(usize),
-    /// This many events are, and all of them aren't; the search for where they stop was given up.
-    Unexplained(usize),
-    GaveUp,
-    NoMemory,
-}
+pub struct Verdict(pub Checked);
 
 impl fmt::Display for Verdict {
     fn fmt<W: fmt::Write>(&self, f: &mut fmt::Formatter<W>) -> fmt::Result {
-        match *self {
-            Verdict::Explained => f.write_str("it is explained"),
-            Verdict::Breaks(place) => {
+        match self.0 {
+            Checked::Explained => f.write_str("it is explained"),
+            Checked::Breaks(place) => {
                 let line = place.saturating_add(2);
                 write!(f, "line {line} is the first one that nothing explains")
             }
-            Verdict::Unexplained(place) => {
+            Checked::Unexplained(place) => {
                 let line = place.saturating_add(2);
                 write!(f, "nothing explains line {line}, or one behind it")
             }
-            Verdict::GaveUp => f.write_str("the search was given up"),
-            Verdict::NoMemory => f.write_str("out of memory"),
+            Checked::GaveUp(_) => f.write_str("the search was given up"),
+            Checked::NoMemory => f.write_str("out of memory"),
         }
     }
 }
 
 /// Judges a run by a search that enters at most this many configurations.
-pub fn judge(alloc: Global, run: &Run, limit: u64) -> Verdict {
+pub fn judge(alloc: Global, run: &Run, limit: u64) -> Checked {
     let limit = usize::try_from(limit).unwrap_or(usize::MAX);
-    match check_calls(alloc, run.capacity, run.events.as_slice(), limit) {
-        Checked::Explained => Verdict::Explained,
-        Checked::Breaks(place) => Verdict::Breaks(place),
-        Checked::Unexplained(place) => Verdict::Unexplained(place),
-        Checked::GaveUp(_) => Verdict::GaveUp,
-        Checked::NoMemory => Verdict::NoMemory,
-    }
+    check_calls(alloc, run.capacity, run.events.as_slice(), limit)
 }
 
 fn capacity_of(number: u64) -> Option<usize> {

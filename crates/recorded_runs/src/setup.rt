@@ -1,4 +1,4 @@
-//! What a thread of a run begins with.
+//! The start of a thread of a run.
 
 use crate::caller::Caller;
 use crate::ends::{TestReceiver, TestSender};
@@ -8,14 +8,13 @@ use flume_recorder::Recorder;
 use futures::test::MockTask;
 use std::alloc::Global;
 
-/// The recorder of a thread, its first ends, and its random numbers.
+/// What a thread of a run begins with.
 #[derive(Drop)]
 pub struct CallerSetup<'h, R: Waits> {
     pub recorder: Recorder<u64>,
     pub sender: Option<TestSender<'h, R>>,
     pub receiver: Option<TestReceiver<'h, R>>,
     pub random: Random,
-    /// How many calls it makes.
     pub calls: u64,
     /// The number before its first message.
     pub message: u64,

@@ -2,7 +2,7 @@
 
 use std::fmt;
 
-/// What came of the runs so far.
+/// Of the runs so far.
 #[derive(Drop)]
 pub struct Tally {
     explained: u64,

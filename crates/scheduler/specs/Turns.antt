@@ -17,8 +17,7 @@ pub record IsPlain {T S : Type 0} (s : State T S) : Type 0 where
 abbrev pub after_step : Task → Task
 after_step task = record task { steps = task.steps - 1 }
 
--- What a turn of the task, with these others behind it, was and left: the others, and behind them
--- the task with one step less, or without it if that was its last step.
+-- what a turn of the task, with these others behind it, answered and left
 abbrev pub TakesTurn : Task → List Task → Turn → List Task → Type 0
 TakesTurn task others (Done number) left =
     (task.steps ≤ 1) × (number ≡ task.number) × (left ≡ others)

@@ -1,6 +1,4 @@
-//! A scheduler of one thread: tasks take turns, each turn does one step of one task.
-//!
-//! What a turn does to the queue of tasks is proved: no task is lost.
+//! A scheduler of one thread: each turn does one step of one task. That none is lost is proved.
 #![tactic(auto)]
 
 mod run_queue;
@@ -23,7 +21,6 @@ fn main(rt: HostRuntime) -> io::Result<()> {
     run(&rt, &mut queue)
 }
 
-/// Takes turns until no task is left, and prints what each of them did.
 fn run<R: Wait + Print>(rt: &R, queue: &mut RunQueue) -> io::Result<()> {
     for _ in rt.forever() {
         match queue.turn() {

@@ -9,8 +9,7 @@ use flume_model::step::Reply;
 use std::alloc::Global;
 use std::marker::Model;
 
-/// A task: its number, and how many steps it has to go. A task of no step is done as one of one
-/// step is.
+/// A task with this many steps to go. One of no step is done as one of one step is.
 #[derive(Clone, Copy)]
 pub struct Task {
     pub number: u64,
@@ -20,17 +19,15 @@ pub struct Task {
 /// What a turn did.
 #[derive(Drop)]
 pub enum Turn {
-    /// Nothing: there is no task.
+    /// There is no task.
     Idle,
-    /// The last step of the task with this number.
+    /// It did the last step of the task with this number.
     Done(u64),
-    /// A step of this task, which is at the back of the queue now.
+    /// It did a step of this task, which is at the back now.
     Again(Task),
 }
 
-/// Tasks, the next one at the front. The channel has one sender and one receiver, is unbounded, and
-/// no call waits at it: a task that comes back always fits, in the memory that it left. Only its
-/// owner's end closes it.
+/// Tasks, the next one at the front.
 #[derive(Drop)]
 pub struct RunQueue {
     tasks: Chan<Task, ()>,
@@ -50,7 +47,6 @@ impl Model for RunQueue {
 
 impl RunQueue {
     /// A queue of no task. Doesn't allocate.
-    ///
     /// ```
     /// let mut queue = RunQueue::new(alloc);
     /// queue.turn();                      // Idle
@@ -63,9 +59,7 @@ impl RunQueue {
         }
     }
 
-    /// Puts a task at the back. `Err`: there was no memory. The task comes back, and the queue is
-    /// as it was.
-    ///
+    /// Puts a task at the back. `Err`: no memory; the task comes back, and the queue is as it was.
     /// ```
     /// queue.add(Task { number: 1, steps: 2 })?;
     /// ```
@@ -81,10 +75,7 @@ impl RunQueue {
         }
     }
 
-    /// One turn: the task at the front does one step, and goes to the back if it isn't done then.
-    /// The tasks behind it stay. A turn needs no memory: a task that goes back has the room that it
-    /// left.
-    ///
+    /// The task at the front does one step, and goes to the back if it isn't done. Needs no memory.
     /// ```
     /// queue.add(Task { number: 1, steps: 2 })?;
     /// queue.turn();                      // Again(Task { number: 1, steps: 1 })
@@ -112,7 +103,6 @@ impl RunQueue {
     }
 }
 
-// Takes the task at the front, whose room is kept.
 fn take(tasks: &mut Chan<Task, ()>) -> Option<Task>
     requires plain { IsPlain tasks.old }
     ensures none { IfNone result ((tasks.old.queue ≡ []) × (tasks.new ≡ tasks.old)) }

@@ -6,7 +6,6 @@ use std::alloc::Global;
 use std::process::ExitCode;
 use std::{env, fs, io};
 
-// Of one file.
 #[derive(Clone, Copy, Drop)]
 struct Counts {
     scripts: u64,
@@ -14,9 +13,8 @@ struct Counts {
     wrong: u64,
 }
 
-/// Plays the files that the program's arguments name, and prints a line for each, and what is
-/// wrong. A file `*.wrong` has scripts whose titles say what is wrong with them. The status is 0 if
-/// all is as it should be.
+/// Plays the files that the program's arguments name. Prints a line for each, and what is wrong. In
+/// a file `*.wrong` each title says what is. The status is 0 if all is as it should be.
 pub fn play_all<T: Fixture>(rt: &HostRuntime, fixture: &T) -> io::Result<ExitCode> {
     let mut wrong = 0u64;
     let mut files = 0u64;

@@ -5,24 +5,22 @@ use std::io;
 
 /// What the lines of a script work on.
 pub trait Subject {
-    /// Does what a line asks, and writes what that answers.
+    /// Does what a line asks, and writes the answer.
     fn answer(&mut self, asks: &str, answer: &mut String) -> Result<(), AllocError>;
 
-    /// Refuses the growths of memory from the first to the last of these, counted from 1 from now
-    /// on.
+    /// Refuses the growths of memory from the first to the last, counted from 1 from now on.
     fn refuse(&mut self, first: u64, last: u64);
 
-    /// Refuses none from now on. How many were refused since the last `refuse`.
+    /// Refuses none from now on. Returns how many were refused since `refuse`.
     fn grant(&mut self) -> u64;
 
-    /// Writes the state, which a call that is refused memory has to leave as it is.
+    /// Writes the state, which a call that is refused memory may not change.
     fn show(&mut self, seen: &mut String) -> Result<(), AllocError>;
 }
 
 /// Makes a subject for each script.
 pub trait Fixture {
-    /// Opens the subject that the script asks for, plays the lines by `ScriptText::play_on`, drops
-    /// the subject, and checks whether something is left of it.
+    /// Opens the subject, plays the lines by `play_on`, drops it, and checks that nothing is left.
     fn play(&self, script: &ScriptText<'_>) -> io::Result<PlayResult>;
 }
 
@@ -41,15 +39,14 @@ fn answer_once<S: Subject>(alloc: Global, subject: &mut S, asks: &str) -> io::Re
     Ok(text)
 }
 
-// Of a line like `try_send 0 to 99`: what is before the numbers, the first and the last.
+// Of `try_send 0 to 99`: the call, the first number and the last.
 fn range_of(asks: &str) -> Option<(&str, u64, u64)> {
     let (begin, last) = asks.rsplit_once(" to ")?;
     let (call, first) = begin.rsplit_once(" ")?;
     Some((call, first.parse::<u64>().ok()?, last.parse::<u64>().ok()?))
 }
 
-// The answer that all calls with these numbers have, with `each` for the number; or the first other
-// one.
+// The answer of all, with `each` for the number; or the first that is another.
 fn answer_each<S: Subject>(
     alloc: Global,
     subject: &mut S,
@@ -85,13 +82,11 @@ fn show<S: Subject>(alloc: Global, subject: &mut S) -> io::Result<String> {
     Ok(text)
 }
 
-// One of the calls that ` or ` separates.
 fn nth_call(calls: &str, number: usize) -> &str {
     calls.split(" or ").nth(number).unwrap_or("")
 }
 
-// The answer if this growth is refused, of those that ` / ` separates. The last is for all later
-// ones too.
+// The last answer is for all later growths too.
 fn answer_at_growth(answers: &str, growth: u64) -> &str {
     let (_, last) = answers.rsplit_once(" / ").unwrap_or(("", answers));
     let before = growth.saturating_sub(1) as usize;
@@ -110,7 +105,6 @@ fn compare(
     Ok(Some(format!(in alloc; "`{asks}` answers {answer}, not {wanted}")?))
 }
 
-// What is wrong with a line without `! `.
 fn wrong_answer<S: Subject>(
     alloc: Global,
     subject: &mut S,
@@ -122,8 +116,7 @@ fn wrong_answer<S: Subject>(
 }
 
 impl ScriptText<'_> {
-    // What is wrong with the line behind `! `, with the script's growths refused. If one was, the
-    // answer behind the bar is wanted, if there is one, and nothing may have changed.
+    // Plays the line behind `! ` with the script's growths refused.
     fn wrong_refusal<S: Subject>(
         &self,
         alloc: Global,
@@ -167,8 +160,7 @@ impl ScriptText<'_> {
         }
     }
 
-    /// Plays the lines, up to the first wrong answer. Those below a line `! call` that has an
-    /// answer for a refusal aren't played if no growth was refused.
+    /// Plays the lines up to a wrong answer, or one with growths of which none was refused.
     pub fn play_on<S: Subject>(&self, alloc: Global, subject: &mut S) -> io::Result<PlayResult> {
         let mut number = self.number.saturating_add(1);
         let mut is_refused = false;

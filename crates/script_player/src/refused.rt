@@ -11,11 +11,9 @@ const MOST: u64 = 100;
 enum Outcome {
     Wrong(String),
     Refused,
-    // The line has no such growth.
     NotRefused,
 }
 
-// Plays a script with this growth refused, alone and with all after it.
 fn play_refusing<T: Fixture>(
     alloc: Global,
     fixture: &T,
@@ -41,7 +39,7 @@ fn play_refusing<T: Fixture>(
     Ok(outcome)
 }
 
-// Refuses each growth of the first call in turn. What is wrong, and the number of growths plus one.
+// What is wrong, and the number of growths plus one.
 fn play_first_call<T: Fixture>(
     alloc: Global,
     fixture: &T,
@@ -59,8 +57,7 @@ fn play_first_call<T: Fixture>(
     Ok((Some(wrong.to_string(alloc)?), 1))
 }
 
-// Refuses each growth of another call in turn. Each has to be refused: with memory the call would
-// wait.
+// Each growth has to be refused: with memory the call would wait.
 fn play_other_call<T: Fixture>(
     alloc: Global,
     fixture: &T,
@@ -80,7 +77,6 @@ fn play_other_call<T: Fixture>(
     Ok(None)
 }
 
-// Refuses the growths of this many calls, which have none.
 fn play_without_growth<T: Fixture>(
     alloc: Global,
     fixture: &T,
@@ -100,7 +96,7 @@ fn play_without_growth<T: Fixture>(
     Ok(None)
 }
 
-// How many growths a line names: `parker, 4 blocks of a table` names five.
+// `parker, 4 blocks of a table` names five.
 fn count_names(names: &str) -> u64 {
     let mut growths = 0u64;
     for name in names.split(", ") {
@@ -111,7 +107,6 @@ fn count_names(names: &str) -> u64 {
     growths
 }
 
-// Refuses each growth of each call. The line has as many as it names.
 fn play_each_growth<T: Fixture>(
     alloc: Global,
     fixture: &T,

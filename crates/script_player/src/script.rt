@@ -1,7 +1,6 @@
 //! The text of a script.
 
-/// Which growths of the line `! call` are refused, counted from 1; and which of its calls is made,
-/// from 0.
+/// Which growths of the line `! call` are refused, from 1, and which of its calls is made, from 0.
 #[derive(Clone, Copy, Drop)]
 pub(crate) struct Refused {
     pub(crate) first: u64,
@@ -9,7 +8,6 @@ pub(crate) struct Refused {
     pub(crate) call: usize,
 }
 
-/// No growth is refused.
 pub(crate) const NONE: Refused = Refused {
     first: 1,
     last: 0,
@@ -19,19 +17,17 @@ pub(crate) const NONE: Refused = Refused {
 /// A script, and which growths are refused as it is played.
 #[derive(Clone, Copy, Drop)]
 pub struct ScriptText<'a> {
-    /// What it is for.
     pub title: &'a str,
     /// How the subject is opened.
     pub opening: &'a str,
-    /// The lines that are played.
     pub lines: &'a str,
-    /// The number of the title's line in the file.
+    /// The title's line in the file.
     pub(crate) number: usize,
     pub(crate) refused: Refused,
 }
 
 impl<'a> ScriptText<'a> {
-    /// The script of the text behind `= `, on the line of this number.
+    /// The script of the text behind `= ` on this line.
     pub(crate) fn of(block: &'a str, number: usize) -> ScriptText<'a> {
         let (title, below) = block.split_once("\n").unwrap_or((block, ""));
         let (opening, lines) = below.split_once("\n").unwrap_or((below, ""));
@@ -44,7 +40,6 @@ impl<'a> ScriptText<'a> {
         }
     }
 
-    /// The same, with these growths refused.
     pub(crate) fn with_refused(&self, refused: Refused) -> ScriptText<'a> {
         let script = *self;
         ScriptText { refused, ..script }

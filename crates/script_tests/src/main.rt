@@ -1,5 +1,4 @@
-//! Compares the answers of `run_script` to bad input with those of a second, slow and plain reader:
-//! to scripts written by hand, and to random ones near the grammar.
+//! Compares `run_script` with a second, plain reader: on scripts written by hand, and random ones.
 #![tactic(auto)]
 
 mod random_scripts;
@@ -67,8 +66,7 @@ fn lines_in(text: &[u8]) -> u64 {
     lines
 }
 
-// Whether the answer is a line for each step, or the number of the first wrong line, as the reader
-// says.
+// `read` is what the reader says.
 fn is_answered(alloc: Global, script: &[u8], read: Result<u64, u64>) -> io::Result<bool> {
     let answer = run_script(alloc, script)?;
     match read {
@@ -93,7 +91,7 @@ fn fault_of_rows(alloc: Global) -> io::Result<Option<Vec<u8>>> {
     Ok(None)
 }
 
-// The first random script that is answered otherwise, and how many were wrong.
+// The first that is answered otherwise, and how many were wrong.
 fn fault_of_random(alloc: Global, scripts: u64, seed: u64) -> io::Result<(Option<Vec<u8>>, u64)> {
     let mut random_scripts = RandomScripts { state: seed };
     let mut wrong = 0u64;

@@ -1,7 +1,7 @@
 //! Random scripts: right ones, and what a few changes make of them.
 use std::alloc::{AllocError, Global};
 
-// Words that a number follows. Bars separate the texts.
+// Bars separate the texts.
 const NUMBERED: &str = "try_send |send |poll_send |withdraw_send |poll |withdraw |set_capacity ";
 
 const PLAIN: &str = "try_recv|recv block|recv plain|recv stream|recv arm|drain|clone_sender|\
@@ -11,15 +11,13 @@ const PLAIN: &str = "try_recv|recv block|recv plain|recv stream|recv arm|drain|c
 const NUMBERS: &str = "0|1|2|3|4|10|007|9223372036854775808|18446744073709551615|\
     00018446744073709551615";
 
-// What is inserted into a script. Each may make a line wrong.
+// Each may make a line wrong.
 const PIECES: &str = "\n|\r|\r\n|\n\r| |  |\t|\0|\u{b}|\u{85}|\u{660}|\u{2028}|+|-|_|.|0|9|a|e|S|s|\
     18446744073709551615|18446744073709551616|99999999999999999999|\
     340282366920938463463374607431768211456|unbounded\n|bounded 1\n|recv |len\n|send 5\n| block";
 
-// What is inserted many times.
 const RUNS: &str = "0|9|a| |\r|\n|\0|len\n";
 
-// More than the pieces of a run.
 const LONGEST: usize = 5000;
 
 #[derive(Drop)]
@@ -83,8 +81,7 @@ impl RandomScripts {
         least
     }
 
-    // Replaces, removes or inserts a byte, cuts the script, doubles a part, or inserts a text or a
-    // long run of one.
+    // Replaces, removes or inserts a byte, cuts the script, doubles a part, or inserts texts.
     fn change(&mut self, alloc: Global, script: &[u8]) -> Result<Vec<u8>, AllocError> {
         let (len, byte) = (script.len(), [u8::try_from(self.below(256)).unwrap_or(0)]);
         let at = self.place(script);
@@ -116,7 +113,6 @@ impl RandomScripts {
     }
 }
 
-// The bytes with this many of these pieces in place of those from one place up to another.
 fn replace(
     alloc: Global,
     bytes: &[u8],

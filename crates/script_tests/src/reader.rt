@@ -1,11 +1,8 @@
-//! A slow and plain reader of scripts, written from these rules alone:
-//!
-//! A script is bytes. A line ends in a line feed; a last line without one counts as well. One
-//! carriage return before the line feed is dropped. Words are separated by exactly one space, with
-//! none before or after. A number is one or more ASCII digits, at most 2^64 - 1 in value; zeros may
-//! come first. An empty line, a byte outside these forms or a wrong number of words makes a line
-//! wrong. The first line is `unbounded` or `bounded N`, each other one a step. A script without any
-//! line is wrong in line 1.
+//! A plain reader of scripts, written from these rules alone. A line ends in a line feed, of which
+//! the last may be missing; one carriage return before it is dropped. Words are separated by one
+//! space, with none before or after. A number is one or more ASCII digits, at most 2^64 - 1; zeros
+//! may come first. Any other byte or number of words makes a line wrong. The first line is
+//! `unbounded` or `bounded N`, each other one a step. With no line, line 1 is wrong.
 
 const ALONE: &str = "try_recv drain clone_sender clone_receiver drop_sender drop_receiver len \
     is_empty is_full capacity sender_count receiver_count is_disconnected";
@@ -18,7 +15,6 @@ fn is_one_of(word: &[u8], words: &str) -> bool {
     words.split(" ").any(|other| word == other.as_bytes())
 }
 
-// A value past 2^128 counts as 2^128 - 1, which is too great as well.
 fn is_number(word: &[u8]) -> bool {
     let mut value = 0u128;
     for &byte in word {
@@ -41,8 +37,7 @@ fn split_word(line: &[u8]) -> (&[u8], Option<&[u8]>) {
     (line, None)
 }
 
-// Whether a line without its end is right. The part after the first space is one word: a number or
-// a kind has no space in it.
+// What is after the first space is one word: a number or a kind has no space in it.
 fn is_right(line: &[u8], is_first: bool) -> bool {
     let (word, rest) = split_word(line);
     match (is_first, rest) {
@@ -54,8 +49,7 @@ fn is_right(line: &[u8], is_first: bool) -> bool {
     }
 }
 
-/// How many lines the script has, if each is right; else the number of the first wrong line,
-/// counted from 1.
+/// How many lines there are, if each is right; else the number of the first wrong one, from 1.
 pub(crate) fn read(script: &[u8]) -> Result<u64, u64> {
     let mut number = 1u64;
     let mut start = 0usize;

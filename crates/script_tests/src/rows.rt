@@ -1,7 +1,6 @@
-//! Scripts written by hand, each with the number of its first wrong line, or 0. They show that the
-//! reader is right; random scripts only show that it agrees.
+//! Scripts written by hand, which show that the reader is right; random ones show that it agrees.
 
-/// A script, and the number of its first wrong line.
+/// A script, and the number of its first wrong line, or 0.
 pub(crate) type Row = (&'static [u8], u64);
 
 pub(crate) const ROWS: &[Row] = &[

@@ -1,6 +1,6 @@
 //! Timed calls by a clock that can't be read, and by clocks that each reading advances.
 use crate::fixtures::{far_deadline, is, unwrap};
-use flume::error::{RecvTimeoutError, SelectError, SendTimeoutError};
+use flume::error::{RecvTimeoutError, SelectError, SendTimeoutError, TryRecvError, TrySendError};
 use flume::{Receiver, Sender, Waits, bounded};
 use std::alloc::Global;
 use std::process::Abort;
@@ -10,22 +10,6 @@ use test_support::arms::HowLong;
 use test_support::clocks::{TickingClock, UnreadableClock};
 use test_support::ends::one_hour;
 use test_support::selections::{Winner, receive, send};
-
-#[test]
-fn a_selection_is_late_if_the_clock_cannot_be_read(rt: HostRuntime) {
-    let (far, timeout) = (
-        HowLong::Deadline(far_deadline(&rt)),
-        HowLong::Timeout(one_hour()),
-    );
-    let (tx, rx) = unwrap(&rt, bounded(UnreadableClock { rt }, rt.alloc(), 1, 1));
-    is(&rt, receive(&rx, far), Err(SelectError::Timeout));
-    is(&rt, receive(&rx, timeout), Err(SelectError::Timeout));
-    is(&rt, send(&tx, 1, far), Ok(Winner::Sent(Ok(()))));
-    is(&rt, send(&tx, 2, far), Err(SelectError::Timeout));
-    is(&rt, send(&tx, 3, timeout), Err(SelectError::Timeout));
-    is(&rt, receive(&rx, timeout), Ok(Winner::First(Ok(1))));
-    is(&rt, tx.try_send(4), Ok(()));
-}
 
 // Whether the call of this number times out, on a channel where nothing can be sent or received.
 fn is_late<R: Waits>(
@@ -49,6 +33,41 @@ fn is_late<R: Waits>(
         10 => rx.iter_timeout(timeout).next().is_none(),
         _ => rx.iter_deadline(deadline).next().is_none(),
     }
+}
+
+#[test]
+fn a_timed_call_is_late_if_the_clock_cannot_be_read(rt: HostRuntime) {
+    let times = (one_hour(), far_deadline(&rt));
+    let (tx, rx) = unwrap(&rt, bounded(UnreadableClock { rt }, rt.alloc(), 1, 0));
+    for call in 0..12 {
+        let late = is_late(&rt, (&tx, &rx), times, (call, rt.alloc()));
+        assert!(rt; late, "call {call}");
+    }
+    is(&rt, rx.try_recv(), Err(TryRecvError::Empty));
+    is(&rt, tx.try_send(1), Err(TrySendError::Full(1)));
+}
+
+#[test]
+fn a_timed_call_that_need_not_wait_needs_no_clock(rt: HostRuntime) {
+    let (hour, far) = (one_hour(), HowLong::Deadline(far_deadline(&rt)));
+    let (tx, rx) = unwrap(&rt, bounded(UnreadableClock { rt }, rt.alloc(), 1, 1));
+    is(&rt, send(&tx, 1, far), Ok(Winner::Sent(Ok(()))));
+    is(&rt, rx.recv_timeout(hour), Ok(1));
+    is(&rt, tx.send_timeout(2, hour), Ok(()));
+    is(&rt, receive(&rx, far), Ok(Winner::First(Ok(2))));
+    drop(tx);
+    is(
+        &rt,
+        rx.recv_timeout(hour),
+        Err(RecvTimeoutError::Disconnected),
+    );
+    let (tx, rx) = unwrap(&rt, bounded(UnreadableClock { rt }, rt.alloc(), 1, 1));
+    drop(rx);
+    is(
+        &rt,
+        tx.send_timeout(3, hour),
+        Err(SendTimeoutError::Disconnected(3)),
+    );
 }
 
 // How many microseconds each reading advances the clock, how many a call waits, and how often it

@@ -1,5 +1,4 @@
-//! What several tests use. What can't be had fails the test here: a `?` in a test costs the prover
-//! a second, and an abort none.
+//! What can't be had aborts a test here: a `?` in a test costs the prover a second.
 use flume::{Receiver, Sender, Waits};
 use std::alloc::{Allocator, Global};
 use std::fmt::Debug;
@@ -19,14 +18,12 @@ pub(crate) fn holds(rt: &impl Abort, answer: bool) {
     assert!(rt; answer);
 }
 
-/// The result of a call that fails for memory alone.
 pub(crate) fn unwrap<T, E: Debug + Drop>(rt: &impl Abort, answer: Result<T, E>) -> T {
     answer.expect(rt, "there is memory")
 }
 
 pub(crate) type Ends<T, R: Waits, A: Allocator + Copy> = (Sender<T, R, A>, Receiver<T, R, A>);
 
-/// The ends of a new channel of this capacity: `None` is unbounded.
 pub(crate) fn channel<T: Drop, R: Waits + Abort, A: Allocator + Copy>(
     rt: R,
     alloc: A,
@@ -61,7 +58,6 @@ impl<R: Waits + Abort> Work for Stuck<R> {
     }
 }
 
-/// Starts the watchdog of a test.
 pub(crate) fn start_watchdog<R: Waits + Threads + Abort + Send + Sync + 'static>(
     rt: R,
     alloc: Global,

@@ -1,7 +1,4 @@
 //! A worker that can be told to stop, and that stops by itself if nothing comes for too long.
-//!
-//! What is printed depends on no schedule: the worker is told to stop only once all its answers are
-//! there, and if it ends by itself nothing could have come.
 #![tactic(auto)]
 
 use flume::error::NoMemory;
@@ -13,12 +10,10 @@ use std::{io, thread};
 /// Why a worker ended.
 #[derive(Debug, Drop)]
 enum EndReason {
-    /// It was told to stop, or all senders of stops or of jobs have been dropped.
     Stopped,
     Late,
 }
 
-/// What a worker receives from, and what it answers into.
 #[derive(Drop)]
 struct Worker<R: Waits> {
     rt: R,
@@ -46,7 +41,7 @@ impl<R: Waits> Worker<R> {
     }
 }
 
-/// A worker's owner: the other ends of its channels, and the thread that it works in.
+/// The other ends of a worker's channels, and the thread that it works in.
 #[derive(Drop)]
 struct Boss<R: Waits> {
     tell: Sender<(), R>,
@@ -60,11 +55,8 @@ fn main(rt: HostRuntime) -> io::Result<()> {
     println!(rt; "{:?}", too_late(rt)?)
 }
 
-/// Starts a worker that waits for each job up to `patience`.
 fn employ<R: Runtime>(rt: R, patience: Duration) -> io::Result<Boss<R>> {
-    // Of capacity 1: only one word is ever sent, so its send doesn't wait.
     let (tell, stop) = flume::on(rt).bounded(1)?;
-    // Of capacity 1: each job is answered before the next one is given.
     let (give, jobs) = flume::on(rt).bounded(1)?;
     // Of capacity 0: the worker goes on once its answer was read.
     let (done, answers) = flume::on(rt).bounded(0)?;
@@ -83,9 +75,8 @@ fn employ<R: Runtime>(rt: R, patience: Duration) -> io::Result<Boss<R>> {
     })
 }
 
-/// Has five jobs done, and then a worker that is told to stop.
 fn told_to_stop<R: Runtime + Print>(rt: R) -> io::Result<EndReason> {
-    // Longer than this program runs: the worker is told to stop before.
+    // Longer than this program runs.
     let boss = employ(rt, Duration::from_secs(3600))?;
     let asked = ask(&rt, boss.tell, boss.give, boss.answers);
     // If the worker failed, its error says why; the other one only says that it is disconnected.
@@ -94,8 +85,7 @@ fn told_to_stop<R: Runtime + Print>(rt: R) -> io::Result<EndReason> {
     Ok(why)
 }
 
-/// Gives the jobs, prints their answers, and only then tells the worker to stop. The ends are
-/// dropped as it returns, so the worker ends too if this fails.
+/// Gives the jobs, and then tells the worker to stop. If this fails, the dropped ends stop it.
 fn ask<R: Runtime + Print>(
     rt: &R,
     tell: Sender<(), R>,
@@ -109,7 +99,7 @@ fn ask<R: Runtime + Print>(
     Ok(tell.send(())?)
 }
 
-/// Lets a worker wait for what doesn't come: both senders are here, and neither sends.
+/// Lets a worker wait for what doesn't come.
 fn too_late<R: Runtime>(rt: R) -> io::Result<EndReason> {
     let boss = employ(rt, Duration::from_millis(20))?;
     let why = boss.working.join(&rt);

@@ -1,2 +1,2 @@
-mod Refused
-mod CountDown
+mod RefusedLemmas
+mod CountDownLemmas

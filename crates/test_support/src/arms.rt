@@ -1,5 +1,5 @@
-//! The last arms of a selector and its wait, each proved once for whatever arms come before: a
-//! wait over arms that are all known costs the prover a minute and more, and each arm doubles it.
+//! A selector's last arm and its wait, proved once for whatever arms come before: a wait over known
+//! arms costs the prover a minute and more, and each arm doubles it.
 use flume::error::{NoMemory, RecvError, SelectError, SendError};
 use flume::select::{Arms, AtLeastOneArm};
 use flume::{Receiver, Selector, Sender, Waits};
@@ -14,7 +14,6 @@ pub enum HowLong {
     Deadline(Instant),
 }
 
-// An endless wait fails for memory alone.
 fn without_end<V>(answer: Result<V, NoMemory>) -> Result<V, SelectError> {
     match answer {
         Ok(value) => Ok(value),

@@ -4,8 +4,7 @@ use flume::{Receiver, Waits};
 use std::alloc::Allocator;
 use std::thread;
 
-/// Sets the capacity to 0, 3, 1 and 8 in turn, until all senders have been dropped; answers how
-/// often.
+/// Sets capacities in turn, until all senders have been dropped; answers how often.
 pub fn keep_changing_capacity<T: Drop, R: Waits, A: Allocator + Copy>(
     rt: &R,
     rx: &Receiver<T, R, A>,

@@ -4,13 +4,10 @@ use std::sync::atomic::{AtomicU64, Ordering};
 
 struct Blocks {
     live: AtomicU64,
-    // How many were requested and refused since the range was set.
     requests: AtomicU64,
     refusals: AtomicU64,
-    // The range that is refused, counted from 1.
     first: AtomicU64,
     last: AtomicU64,
-    // One request in this many is refused in addition, if it isn't 0.
     one_in: AtomicU64,
 }
 
@@ -27,7 +24,7 @@ impl Drop for Blocks {
     }
 }
 
-/// Counts the blocks of another allocator, and refuses requests. A `&` of it is an allocator too.
+/// Counts the blocks of another allocator, and refuses requests.
 pub struct Counting<B: Allocator> {
     inner: B,
     blocks: Blocks,

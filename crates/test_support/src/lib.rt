@@ -1,5 +1,4 @@
-//! What crates of tests share: clocks, an allocator that refuses, threads, a watchdog, and
-//! selections. A library may not abort: so what fails a test is in the fixtures of each crate.
+//! What crates of tests share. A library may not abort, so what fails a test is in their fixtures.
 #![tactic(auto)]
 
 pub mod arms;

@@ -12,7 +12,6 @@ use std::{io, thread};
 #[derive(Drop)]
 pub struct ClockState {
     readings: AtomicU64,
-    // The first reading that waits until the clock runs again, counted from 1.
     first_stopped: AtomicU64,
     is_past_deadlines: AtomicBool,
 }

@@ -8,7 +8,7 @@ use std::test::Fail;
 use std::thread::{JoinHandle, Threads};
 use std::time::{Duration, Instant};
 
-/// What a test reports to its watchdog: how often something happened, and whether the test is over.
+/// What a test reports to its watchdog.
 #[derive(Drop)]
 pub struct Progress {
     steps: AtomicU64,
@@ -23,12 +23,10 @@ pub struct Watchdog {
     thread: JoinHandle<()>,
 }
 
-// Far longer than any call of a test waits.
 fn patience() -> Duration {
     Duration::from_secs(50)
 }
 
-// How much patience is left if something happened last at this time.
 fn left_since<R: Waits>(rt: &R, last: Instant) -> Duration {
     match Instant::now(rt) {
         Ok(now) => patience().saturating_sub(now.saturating_duration_since(last)),
@@ -36,7 +34,7 @@ fn left_since<R: Waits>(rt: &R, last: Instant) -> Duration {
     }
 }
 
-// Waits until the test is over, or nothing happened for too long; answers whether it is over.
+// Whether the test is over; if not, nothing happened for too long.
 fn watch_over<R: Waits>(rt: &R, progress: &Progress, began: Instant) -> bool {
     let (mut seen, mut last) = (0, began);
     let mut is_over = progress.is_over.lock(rt);
@@ -81,8 +79,7 @@ impl<R: Waits, W: Work<Answer = ()> + Drop> Work for WatchOver<R, W> {
     }
 }
 
-/// Starts a watchdog, which does `stuck` if for 50 seconds nothing is reported and the test isn't
-/// over. `stuck` is to fail the test.
+/// Starts a watchdog, which does `stuck` if for 50 seconds nothing is reported.
 pub fn start_watchdog_with<R, W>(rt: R, alloc: Global, stuck: W) -> Result<Watchdog, Fail>
 where
     R: Waits + Threads + Send + Sync + 'static,
@@ -109,7 +106,7 @@ where
 }
 
 impl Progress {
-    /// Something happened.
+    /// Tells the watchdog that something happened.
     pub fn report(&self) {
         self.steps.fetch_add(1, Ordering::Relaxed);
     }

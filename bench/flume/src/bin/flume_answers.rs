@@ -2,10 +2,7 @@
 //!
 //! `flume_answers FILE` reads a file of the form of `crates/flume_replay/data/*.txt`: lines before
 //! the first block, and then blocks of a line `= number`, the script, a line `-`, and replies. It
-//! prints the file again, with the replies that flume gives now in place of those of the file.
-//!
-//! Only flume's public calls are made. A step that no call of flume stands for gets no reply of
-//! flume: the README beside this project says which those are.
+//! prints the file with flume's replies. README.md says which steps no call of flume stands for.
 
 use flume::r#async::{RecvFut, RecvStream, SendFut};
 use flume::{Receiver, RecvError, Sender, TryRecvError, TrySendError};
@@ -19,7 +16,6 @@ use std::pin::Pin;
 use std::process::ExitCode;
 use std::task::{Context, Poll, Waker};
 
-/// The senders, and the sends that are blocked, each with its ticket and its message.
 struct Senders<'s> {
     /// The one that the blocked sends borrow; it goes last.
     first: Option<&'s Sender<u64>>,
@@ -27,7 +23,6 @@ struct Senders<'s> {
     blocked: BTreeMap<u64, (u64, SendFut<'s, u64>)>,
 }
 
-/// The receivers, and those that are parked, each with its ticket.
 struct Receivers<'r> {
     /// The one that the parked ones borrow; it goes last.
     first: Option<&'r Receiver<u64>>,
@@ -35,7 +30,6 @@ struct Receivers<'r> {
     parked: BTreeMap<u64, Parked<'r>>,
 }
 
-/// A receive that was polled and isn't done.
 enum Parked<'r> {
     Plain(RecvFut<'r, u64>),
     Stream(RecvStream<'r, u64>),
@@ -51,7 +45,6 @@ struct Channel<'s, 'r> {
 
 /// How far a list of steps went.
 enum Stop {
-    /// All were done.
     Done,
     /// The last sender, or the last receiver, is to go now.
     LastSender,
@@ -118,36 +111,32 @@ impl<'s, 'r> Channel<'s, 'r> {
         }
     }
 
-    /// The channel with no borrow of a sender.
     fn without_senders<'n>(self) -> Channel<'n, 'r> {
-        let Channel {
-            capacity,
-            last_ticket,
-            receivers,
-            ..
-        } = self;
         Channel {
-            capacity,
-            last_ticket,
+            capacity: self.capacity,
+            last_ticket: self.last_ticket,
             senders: Senders::of(None),
-            receivers,
+            receivers: self.receivers,
         }
     }
 
-    /// The channel with no borrow of a receiver.
     fn without_receivers<'n>(self) -> Channel<'s, 'n> {
-        let Channel {
-            capacity,
-            last_ticket,
-            senders,
-            ..
-        } = self;
         Channel {
-            capacity,
-            last_ticket,
-            senders,
+            capacity: self.capacity,
+            last_ticket: self.last_ticket,
+            senders: self.senders,
             receivers: Receivers::of(None),
         }
+    }
+
+    fn sender(&self) -> Result<&'s Sender<u64>, Stop> {
+        let none = Stop::CantBeDone("no sender is left");
+        self.senders.first.ok_or(none)
+    }
+
+    fn receiver(&self) -> Result<&'r Receiver<u64>, Stop> {
+        let none = Stop::CantBeDone("no receiver is left");
+        self.receivers.first.ok_or(none)
     }
 
     fn is_closed(&self) -> bool {
@@ -212,10 +201,7 @@ impl<'s, 'r> Channel<'s, 'r> {
     }
 
     fn try_send(&mut self, message: u64) -> Result<String, Stop> {
-        let sender = self
-            .senders
-            .first
-            .ok_or(Stop::CantBeDone("no sender is left"))?;
+        let sender = self.sender()?;
         Ok(match sender.try_send(message) {
             Ok(()) => "sent".into(),
             Err(TrySendError::Full(back)) => format!("full {back}"),
@@ -225,10 +211,7 @@ impl<'s, 'r> Channel<'s, 'r> {
 
     /// A send future, polled once.
     fn send(&mut self, message: u64) -> Result<String, Stop> {
-        let sender = self
-            .senders
-            .first
-            .ok_or(Stop::CantBeDone("no sender is left"))?;
+        let sender = self.sender()?;
         let mut future = sender.send_async(message);
         Ok(match Pin::new(&mut future).poll(&mut context()) {
             Poll::Ready(Ok(())) => "sent".into(),
@@ -258,8 +241,7 @@ impl<'s, 'r> Channel<'s, 'r> {
         }
     }
 
-    /// A poll of a blocked send, which then goes; flume drops its message, which is told from the
-    /// step that sent it.
+    /// A poll of a blocked send, which then goes. Its message is told from the step that sent it.
     fn withdraw_send(&mut self, ticket: u64) -> String {
         let Some(&(message, _)) = self.senders.blocked.get(&ticket) else {
             return "noticket".into();
@@ -273,10 +255,7 @@ impl<'s, 'r> Channel<'s, 'r> {
     }
 
     fn try_recv(&mut self) -> Result<String, Stop> {
-        let receiver = self
-            .receivers
-            .first
-            .ok_or(Stop::CantBeDone("no receiver is left"))?;
+        let receiver = self.receiver()?;
         Ok(match receiver.try_recv() {
             Ok(message) => format!("got {message}"),
             Err(TryRecvError::Empty) => "empty".into(),
@@ -286,10 +265,7 @@ impl<'s, 'r> Channel<'s, 'r> {
 
     /// A receive future, or a stream, polled once.
     fn recv(&mut self, kind: &str) -> Result<String, Stop> {
-        let receiver = self
-            .receivers
-            .first
-            .ok_or(Stop::CantBeDone("no receiver is left"))?;
+        let receiver = self.receiver()?;
         let mut parked = match kind {
             "plain" => Parked::Plain(receiver.recv_async()),
             "stream" => Parked::Stream(receiver.stream()),
@@ -333,10 +309,7 @@ impl<'s, 'r> Channel<'s, 'r> {
     }
 
     fn drain(&mut self) -> Result<String, Stop> {
-        let receiver = self
-            .receivers
-            .first
-            .ok_or(Stop::CantBeDone("no receiver is left"))?;
+        let receiver = self.receiver()?;
         let mut reply = String::from("drained");
         for message in receiver.drain() {
             reply.push_str(&format!(" {message}"));
@@ -372,8 +345,7 @@ impl<'s, 'r> Channel<'s, 'r> {
         })
     }
 
-    /// A query, at whichever end is left. With none left flume can't be asked, and what is told is
-    /// that nothing is left.
+    /// A query, at whichever end is left. With none left flume can't be asked.
     fn query(&self, word: &str) -> Result<String, Stop> {
         macro_rules! ask {
             ($call:ident, $over:expr) => {
@@ -400,7 +372,6 @@ impl<'s, 'r> Channel<'s, 'r> {
     }
 }
 
-/// The channel that an opening line asks for, with its capacity.
 fn open(line: &str) -> Option<(Option<usize>, Sender<u64>, Receiver<u64>)> {
     if line == "unbounded" {
         let (sender, receiver) = flume::unbounded();
@@ -453,7 +424,6 @@ fn answers(script: &str) -> Vec<String> {
     replies
 }
 
-/// A file of blocks, with the replies of each made anew.
 fn answered(text: &str) -> String {
     let mut blocks = text.split("\n= ");
     let mut made = String::from(blocks.next().unwrap_or(""));

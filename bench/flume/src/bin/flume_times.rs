@@ -1,18 +1,20 @@
 //! Times flume 0.12.0 in one shape, and prints nanoseconds a message. It is called as
 //! `crates/channel_bench` is, so that `bench/compare` can let the two take turns.
 
+#[path = "../shapes.rs"]
+mod shapes;
+
 use flume::r#async::RecvFut;
 use flume::{Receiver, RecvError, Selector, SendError, Sender};
 use futures::executor::block_on;
 use futures::future::join;
-use futures::task::noop_waker;
-use std::env;
-use std::fmt;
+use shapes::{Ends, SEVERAL, answer, check_sum, inout, oneshot, plain, send_each, seq, to_one};
+use shapes::{to_several, try_pair};
 use std::future::Future;
 use std::mem;
 use std::pin::Pin;
 use std::process::ExitCode;
-use std::task::{Context, Poll};
+use std::task::{Context, Poll, Waker};
 use std::thread;
 use std::time::{Duration, Instant};
 
@@ -53,8 +55,27 @@ MESSAGES says how many operations are timed, and gathering the crowd isn't
 crowd_futures   a message is sent, the receive that waited longest is polled and takes it, and
                 another receive is polled, which waits";
 
-/// How many threads send, and how many receive, where several do.
-const SEVERAL: usize = 4;
+/// The time of a run, the sum of what was received, and how many senders there were.
+type Timed = (Duration, usize, usize);
+
+fn timed(senders: usize, receives: impl FnOnce() -> usize) -> Timed {
+    let start = Instant::now();
+    let sum = receives();
+    (start.elapsed(), sum, senders)
+}
+
+/// Times one call for each message, and sums up those messages for which it does as it should.
+fn counted(messages: usize, mut is_right: impl FnMut(usize) -> bool) -> Timed {
+    timed(1, || {
+        let mut sum = 0usize;
+        for message in 0..messages {
+            if is_right(message) {
+                sum = sum.wrapping_add(message);
+            }
+        }
+        sum
+    })
+}
 
 #[derive(Clone, Copy, PartialEq)]
 enum Capacity {
@@ -63,7 +84,6 @@ enum Capacity {
     Of(usize),
 }
 
-/// What one call of the program times.
 struct Asked {
     shape: String,
     capacity: Capacity,
@@ -109,7 +129,7 @@ impl Asked {
         }
     }
 
-    fn open(&self) -> (Sender<usize>, Receiver<usize>) {
+    fn open(&self) -> Ends {
         match self.capacity {
             Capacity::Unbounded => flume::unbounded(),
             Capacity::Big => flume::bounded(self.messages),
@@ -117,183 +137,59 @@ impl Asked {
         }
     }
 
-    /// The time of one run. It panics where what was received isn't what was sent.
+    /// The time of one run. It panics if what was received isn't what was sent.
     fn run(&self) -> Duration {
-        let (time, sum, senders) = match self.shape.as_str() {
-            "seq" => self.seq(),
-            "spsc" => self.spsc(),
-            "mpsc" => self.mpsc(),
-            "mpmc" => self.mpmc(),
-            "oneshot" => self.oneshot(),
-            "inout" => self.inout(),
-            "try_pair" => self.try_pair(),
-            "try_empty" => self.try_empty(),
-            "plain" => self.plain(),
-            "poll_pair" => self.poll_pair(),
-            "poll_recv_park" => self.poll_recv_park(),
-            "poll_send_park" => self.poll_send_park(),
-            "async_pair" => self.async_pair(),
-            "async_join" => self.async_join(),
-            "async_ping" => self.async_ping(),
-            "pending" => self.pending(),
-            "pending_drop" => self.pending_drop(),
-            "crowd_futures" => self.crowd_futures(),
-            "select_seq" => self.select_seq(),
-            "select_rx" => self.select_rx(),
-            _ => self.try_full(),
-        };
-        let each = (0..self.messages / senders).fold(0, usize::wrapping_add);
-        assert_eq!(
-            sum,
-            each.wrapping_mul(senders),
-            "what was received isn't what was sent"
-        );
+        let (time, sum, senders) = self.in_threads().unwrap_or_else(|| self.in_one_thread());
+        check_sum(sum, self.messages, senders);
         time
     }
 
-    /// All sent, and then all received.
-    fn seq(&self) -> (Duration, usize, usize) {
-        let start = Instant::now();
-        let (sender, receiver) = self.open();
-        send_each(&sender, self.messages);
-        let sum = receive_each(&receiver, self.messages);
-        (start.elapsed(), sum, 1)
+    /// Making the channels and the threads is in the time.
+    fn in_threads(&self) -> Option<Timed> {
+        let messages = self.messages;
+        Some(match self.shape.as_str() {
+            "seq" => timed(1, || seq(&self.open(), messages)),
+            "plain" => timed(2, || plain(&self.open(), messages)),
+            "spsc" => timed(1, || to_one(self.open(), 1, messages)),
+            "mpsc" => timed(SEVERAL, || to_one(self.open(), SEVERAL, messages)),
+            "mpmc" => timed(SEVERAL, || to_several(self.open(), messages)),
+            "oneshot" => timed(1, || oneshot(|| self.open(), messages)),
+            "async_ping" => timed(2, || self.async_ping()),
+            "select_rx" => timed(SEVERAL, || self.select_rx()),
+            _ => return None,
+        })
     }
 
-    /// Half of them sent and received in turn, and then the others sent, and taken by an iterator.
-    fn plain(&self) -> (Duration, usize, usize) {
-        let start = Instant::now();
-        let (sender, receiver) = self.open();
-        let sum = in_turn(&sender, &receiver, self.messages / 2)
-            .and_then(|one| Ok(one.wrapping_add(at_once(&sender, &receiver, self.messages / 2)?)))
-            .expect("a channel of which both ends are there");
-        (start.elapsed(), sum, 2)
-    }
-
-    /// One thread sends, and this one receives. Making the channel and the thread is in the time,
-    /// as it is in the shapes of several threads below.
-    fn spsc(&self) -> (Duration, usize, usize) {
-        let start = Instant::now();
-        let (sender, receiver) = self.open();
-        let sum = thread::scope(|scope| {
-            scope.spawn(move || send_each(&sender, self.messages));
-            receive_each(&receiver, self.messages)
-        });
-        (start.elapsed(), sum, 1)
-    }
-
-    /// Four threads send, and this one receives.
-    fn mpsc(&self) -> (Duration, usize, usize) {
-        let start = Instant::now();
-        let each = self.messages / SEVERAL;
-        let (sender, receiver) = self.open();
-        let sum = thread::scope(|scope| {
-            for _ in 0..SEVERAL {
-                let sender = sender.clone();
-                scope.spawn(move || send_each(&sender, each));
-            }
-            drop(sender);
-            receive_each(&receiver, each * SEVERAL)
-        });
-        (start.elapsed(), sum, SEVERAL)
-    }
-
-    /// Four threads send, and four receive.
-    fn mpmc(&self) -> (Duration, usize, usize) {
-        let start = Instant::now();
-        let each = self.messages / SEVERAL;
-        let (sender, receiver) = self.open();
-        let sum = thread::scope(|scope| {
-            let mut threads = Vec::new();
-            for _ in 0..SEVERAL {
-                let (sender, receiver) = (sender.clone(), receiver.clone());
-                scope.spawn(move || send_each(&sender, each));
-                threads.push(scope.spawn(move || receive_each(&receiver, each)));
-            }
-            drop(sender);
-            let sums = threads
-                .into_iter()
-                .map(|thread| thread.join().expect("a receiver's sum"));
-            sums.fold(0, usize::wrapping_add)
-        });
-        (start.elapsed(), sum, SEVERAL)
-    }
-
-    /// For each message a channel made, the message sent and received, and both ends dropped.
-    fn oneshot(&self) -> (Duration, usize, usize) {
-        let start = Instant::now();
-        let mut sum = 0usize;
-        for message in 0..self.messages {
-            let (sender, receiver) = self.open();
-            if sender.send(message).is_ok() {
-                sum = sum.wrapping_add(receiver.recv().unwrap_or(0));
-            }
+    fn in_one_thread(&self) -> Timed {
+        let (ends, messages) = (self.open(), self.messages);
+        match self.shape.as_str() {
+            "inout" => timed(1, || inout(&ends, messages)),
+            "try_pair" => timed(1, || try_pair(&ends, messages)),
+            "try_empty" => counted(messages, |_| ends.1.try_recv().is_err()),
+            "try_full" => self.try_full(&ends),
+            "poll_pair" => self.poll_pair(&ends),
+            "poll_recv_park" => self.poll_recv_park(&ends),
+            "poll_send_park" => self.poll_send_park(&ends),
+            "async_pair" => timed(1, || block_on(to_and_fro(&ends.0, &ends.1, messages))),
+            "async_join" => timed(1, || self.async_join(&ends)),
+            "pending" => self.pending(&ends),
+            "pending_drop" => self.pending_drop(&ends),
+            "crowd_futures" => self.crowd_futures(&ends),
+            _ => self.select_seq(),
         }
-        (start.elapsed(), sum, 1)
     }
 
-    /// Each message sent, and received before the next.
-    fn inout(&self) -> (Duration, usize, usize) {
-        let (sender, receiver) = self.open();
-        let start = Instant::now();
-        let mut sum = 0usize;
-        for message in 0..self.messages {
-            if sender.send(message).is_ok() {
-                sum = sum.wrapping_add(receiver.recv().unwrap_or(0));
-            }
-        }
-        (start.elapsed(), sum, 1)
-    }
-
-    /// The same by the calls that don't wait.
-    fn try_pair(&self) -> (Duration, usize, usize) {
-        let (sender, receiver) = self.open();
-        let start = Instant::now();
-        let mut sum = 0usize;
-        for message in 0..self.messages {
-            if sender.try_send(message).is_ok() {
-                sum = sum.wrapping_add(receiver.try_recv().unwrap_or(0));
-            }
-        }
-        (start.elapsed(), sum, 1)
-    }
-
-    /// So many times nothing received.
-    fn try_empty(&self) -> (Duration, usize, usize) {
-        let (_sender, receiver) = self.open();
-        let start = Instant::now();
-        let mut sum = 0usize;
-        for message in 0..self.messages {
-            if receiver.try_recv().is_err() {
-                sum = sum.wrapping_add(message);
-            }
-        }
-        (start.elapsed(), sum, 1)
-    }
-
-    /// So many messages refused by a full channel.
-    fn try_full(&self) -> (Duration, usize, usize) {
-        let (sender, _receiver) = self.open();
-        send_each(&sender, sender.capacity().unwrap_or(0));
-        let start = Instant::now();
-        let mut sum = 0usize;
-        for message in 0..self.messages {
-            if sender.try_send(message).is_err() {
-                sum = sum.wrapping_add(message);
-            }
-        }
-        (start.elapsed(), sum, 1)
+    fn try_full(&self, (sender, _): &Ends) -> Timed {
+        send_each(sender, sender.capacity().unwrap_or(0));
+        counted(self.messages, |message| sender.try_send(message).is_err())
     }
 }
 
-/// The shapes that are polled.
 impl Asked {
     /// Each message sent, and received before the next, by polls that are ready at once. Here and
     /// in the next two no executor is in the time, and the waker does nothing.
-    fn poll_pair(&self) -> (Duration, usize, usize) {
-        let (sender, receiver) = self.open();
-        let waker = noop_waker();
-        let mut context = Context::from_waker(&waker);
+    fn poll_pair(&self, (sender, receiver): &Ends) -> Timed {
+        let mut context = Context::from_waker(Waker::noop());
         let start = Instant::now();
         let mut sum = 0usize;
         for message in 0..self.messages {
@@ -311,10 +207,8 @@ impl Asked {
     }
 
     /// For each message a receive that waits, the message sent, and the receive polled again.
-    fn poll_recv_park(&self) -> (Duration, usize, usize) {
-        let (sender, receiver) = self.open();
-        let waker = noop_waker();
-        let mut context = Context::from_waker(&waker);
+    fn poll_recv_park(&self, (sender, receiver): &Ends) -> Timed {
+        let mut context = Context::from_waker(Waker::noop());
         let start = Instant::now();
         let mut sum = 0usize;
         for message in 0..self.messages {
@@ -330,13 +224,10 @@ impl Asked {
         (start.elapsed(), sum, 1)
     }
 
-    /// For each message a send that waits, since the channel is full, a message received, and the
-    /// send polled again.
-    fn poll_send_park(&self) -> (Duration, usize, usize) {
-        let (sender, receiver) = self.open();
-        send_each(&sender, sender.capacity().unwrap_or(0));
-        let waker = noop_waker();
-        let mut context = Context::from_waker(&waker);
+    /// For each message a send that waits, a message received, and the send polled again.
+    fn poll_send_park(&self, (sender, receiver): &Ends) -> Timed {
+        send_each(sender, sender.capacity().unwrap_or(0));
+        let mut context = Context::from_waker(Waker::noop());
         let start = Instant::now();
         let mut sum = 0usize;
         for message in 0..self.messages {
@@ -352,18 +243,7 @@ impl Asked {
         (start.elapsed(), sum, 1)
     }
 
-    /// Each message sent, and received before the next, in one task.
-    fn async_pair(&self) -> (Duration, usize, usize) {
-        let (sender, receiver) = self.open();
-        let start = Instant::now();
-        let sum = block_on(to_and_fro(&sender, &receiver, self.messages));
-        (start.elapsed(), sum, 1)
-    }
-
-    /// A future that sends all, and one that receives all, in one task.
-    fn async_join(&self) -> (Duration, usize, usize) {
-        let (sender, receiver) = self.open();
-        let start = Instant::now();
+    fn async_join(&self, (sender, receiver): &Ends) -> usize {
         let sends = async {
             for message in 0..self.messages {
                 if sender.send_async(message).await.is_err() {
@@ -378,30 +258,25 @@ impl Asked {
             }
             sum
         };
-        let ((), sum) = block_on(join(sends, receives));
-        (start.elapsed(), sum, 1)
+        block_on(join(sends, receives)).1
     }
 
     /// Half of the messages sent to a second thread, which sends each back over a second channel.
-    /// Each thread runs a task of its own. Making the channels and the thread is in the time.
-    fn async_ping(&self) -> (Duration, usize, usize) {
-        let start = Instant::now();
+    /// Each thread runs a task of its own.
+    fn async_ping(&self) -> usize {
         let each = self.messages / 2;
-        let (to, there) = self.open();
-        let (back, here) = self.open();
+        let ((to, there), (back, here)) = (self.open(), self.open());
         let sum = thread::scope(|scope| {
             scope.spawn(move || block_on(echo(&back, &there, each)));
             block_on(to_and_fro(&to, &here, each))
         });
-        (start.elapsed(), sum.wrapping_mul(2), 2)
+        sum.wrapping_mul(2)
     }
 
     /// For each receive that waits a message sent, which it takes as it is polled again.
-    fn pending(&self) -> (Duration, usize, usize) {
-        let (sender, receiver) = self.open();
-        let waker = noop_waker();
-        let mut context = Context::from_waker(&waker);
-        let mut receives = self.wait_each(self.messages, &receiver, &mut context);
+    fn pending(&self, (sender, receiver): &Ends) -> Timed {
+        let mut context = Context::from_waker(Waker::noop());
+        let mut receives = self.wait_each(self.messages, receiver, &mut context);
         let start = Instant::now();
         let mut sum = 0usize;
         for (message, receive) in receives.iter_mut().enumerate() {
@@ -416,29 +291,17 @@ impl Asked {
     }
 
     /// Each receive that waits dropped, the newest first.
-    fn pending_drop(&self) -> (Duration, usize, usize) {
-        let (_sender, receiver) = self.open();
-        let waker = noop_waker();
-        let mut context = Context::from_waker(&waker);
-        let mut receives = self.wait_each(self.messages, &receiver, &mut context);
-        let start = Instant::now();
-        let mut sum = 0usize;
-        for message in 0..self.messages {
-            if receives.pop().is_some() {
-                sum = sum.wrapping_add(message);
-            }
-        }
-        (start.elapsed(), sum, 1)
+    fn pending_drop(&self, (_, receiver): &Ends) -> Timed {
+        let mut context = Context::from_waker(Waker::noop());
+        let mut receives = self.wait_each(self.messages, receiver, &mut context);
+        counted(self.messages, |_| receives.pop().is_some())
     }
 
-    /// For each message the receive that waits longest takes it, and another begins to wait: so as
-    /// many wait all along as the channel's capacity says.
-    fn crowd_futures(&self) -> (Duration, usize, usize) {
-        let (sender, receiver) = self.open();
-        let waker = noop_waker();
-        let mut context = Context::from_waker(&waker);
+    /// The receive that waits longest takes each message, and another begins to wait.
+    fn crowd_futures(&self, (sender, receiver): &Ends) -> Timed {
+        let mut context = Context::from_waker(Waker::noop());
         let standing = sender.capacity().unwrap_or(0);
-        let mut receives = self.wait_each(standing, &receiver, &mut context);
+        let mut receives = self.wait_each(standing, receiver, &mut context);
         let start = Instant::now();
         let mut sum = 0usize;
         for message in 0..self.messages {
@@ -461,7 +324,6 @@ impl Asked {
         (time, sum, 1)
     }
 
-    /// So many receives, each of which was polled once and waits.
     fn wait_each<'a>(
         &self,
         standing: usize,
@@ -479,7 +341,6 @@ impl Asked {
     }
 }
 
-/// The shapes of selections over four channels.
 impl Asked {
     fn open_four(&self) -> ([Sender<usize>; SEVERAL], [Receiver<usize>; SEVERAL]) {
         let (one, two, three, four) = (self.open(), self.open(), self.open(), self.open());
@@ -487,36 +348,33 @@ impl Asked {
     }
 
     /// Each message sent into one of the channels in turn, and received by a selection over all.
-    fn select_seq(&self) -> (Duration, usize, usize) {
+    fn select_seq(&self) -> Timed {
         let (senders, receivers) = self.open_four();
-        let start = Instant::now();
-        let mut sum = 0usize;
-        for message in 0..self.messages {
-            if senders[message % SEVERAL].send(message).is_err() {
-                break;
+        timed(1, || {
+            let mut sum = 0usize;
+            for message in 0..self.messages {
+                if senders[message % SEVERAL].send(message).is_err() {
+                    break;
+                }
+                sum = sum.wrapping_add(select(&receivers));
             }
-            sum = sum.wrapping_add(select(&receivers));
-        }
-        (start.elapsed(), sum, 1)
+            sum
+        })
     }
 
     /// Four threads send, each into a channel of its own, and this one receives all by selections.
-    /// Making the channels and the threads is in the time.
-    fn select_rx(&self) -> (Duration, usize, usize) {
-        let start = Instant::now();
+    fn select_rx(&self) -> usize {
         let each = self.messages / SEVERAL;
         let (senders, receivers) = self.open_four();
-        let sum = thread::scope(|scope| {
+        thread::scope(|scope| {
             for sender in &senders {
                 scope.spawn(move || send_each(sender, each));
             }
             (0..each * SEVERAL).fold(0usize, |sum, _| sum.wrapping_add(select(&receivers)))
-        });
-        (start.elapsed(), sum, SEVERAL)
+        })
     }
 }
 
-/// What one selection over the four channels receives.
 fn select(receivers: &[Receiver<usize>; SEVERAL]) -> usize {
     Selector::new()
         .recv(&receivers[0], |answer| answer.unwrap_or(0))
@@ -526,7 +384,6 @@ fn select(receivers: &[Receiver<usize>; SEVERAL]) -> usize {
         .wait()
 }
 
-/// The sum of so many messages, each sent, and one awaited before the next.
 async fn to_and_fro(sender: &Sender<usize>, receiver: &Receiver<usize>, messages: usize) -> usize {
     let mut sum = 0usize;
     for message in 0..messages {
@@ -538,7 +395,6 @@ async fn to_and_fro(sender: &Sender<usize>, receiver: &Receiver<usize>, messages
     sum
 }
 
-/// Sends so many messages as they come.
 async fn echo(sender: &Sender<usize>, receiver: &Receiver<usize>, messages: usize) {
     for _ in 0..messages {
         let Ok(message) = receiver.recv_async().await else {
@@ -550,103 +406,10 @@ async fn echo(sender: &Sender<usize>, receiver: &Receiver<usize>, messages: usiz
     }
 }
 
-/// Sends 0, 1, 2 and so on.
-fn send_each(sender: &Sender<usize>, messages: usize) {
-    for message in 0..messages {
-        if sender.send(message).is_err() {
-            return;
-        }
-    }
-}
-
-/// The sum of so many messages, or of those that come.
-fn receive_each(receiver: &Receiver<usize>, messages: usize) -> usize {
-    let mut sum = 0usize;
-    for _ in 0..messages {
-        match receiver.recv() {
-            Ok(message) => sum = sum.wrapping_add(message),
-            Err(_) => return sum,
-        }
-    }
-    sum
-}
-
 fn main() -> ExitCode {
-    let words: Vec<String> = env::args().skip(1).collect();
-    if words.is_empty() {
-        println!("{USAGE}");
-        return ExitCode::SUCCESS;
-    }
-    let Some((asked, can)) = Asked::read(&words).and_then(|asked| {
-        let can = asked.can_be_timed()?;
-        Some((asked, can))
-    }) else {
-        eprintln!("{USAGE}");
-        return ExitCode::from(2);
-    };
-    if !can {
-        eprintln!("this shape can't be had at this capacity");
-        return ExitCode::from(3);
-    }
-    let least = (0..asked.rounds.max(1))
-        .map(|_| asked.run())
-        .min()
-        .unwrap_or_default();
-    let hundredths = least.as_nanos() * 100 / asked.messages.max(1) as u128;
-    println!("{}.{:02}", hundredths / 100, hundredths % 100);
-    ExitCode::SUCCESS
-}
-
-/// What may go wrong in a user's loop.
-#[derive(Debug)]
-enum Problem {
-    NotSent,
-    NotReceived,
-}
-
-impl fmt::Display for Problem {
-    fn fmt(&self, f: &mut fmt::Formatter<'_>) -> fmt::Result {
-        f.write_str(match self {
-            Problem::NotSent => "a message wasn't sent",
-            Problem::NotReceived => "no message came",
-        })
-    }
-}
-
-impl From<SendError<usize>> for Problem {
-    fn from(_: SendError<usize>) -> Problem {
-        Problem::NotSent
-    }
-}
-
-impl From<RecvError> for Problem {
-    fn from(_: RecvError) -> Problem {
-        Problem::NotReceived
-    }
-}
-
-/// Each message sent, and received before the next.
-fn in_turn(
-    sender: &Sender<usize>,
-    receiver: &Receiver<usize>,
-    messages: usize,
-) -> Result<usize, Problem> {
-    let mut sum = 0usize;
-    for message in 0..messages {
-        sender.send(message)?;
-        sum = sum.wrapping_add(receiver.recv()?);
-    }
-    Ok(sum)
-}
-
-/// All sent, and then all taken that are there.
-fn at_once(
-    sender: &Sender<usize>,
-    receiver: &Receiver<usize>,
-    messages: usize,
-) -> Result<usize, Problem> {
-    for message in 0..messages {
-        sender.send(message)?;
-    }
-    Ok(receiver.try_iter().fold(0, usize::wrapping_add))
+    answer(USAGE, |words| {
+        let asked = Asked::read(words)?;
+        let least = || (0..asked.rounds.max(1)).map(|_| asked.run()).min();
+        Some(asked.can_be_timed()?.then(|| (least().unwrap_or_default(), asked.messages)))
+    })
 }

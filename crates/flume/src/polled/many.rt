@@ -19,11 +19,9 @@ use futures::task::Context;
 use std::alloc::Allocator;
 use std::collections::VecDeque;
 
-// What is left of the list, and what the poll answers.
 pub(crate) type SendListPoll<T, A> = (VecDeque<T, A>, Option<Result<(), SendError<T>>>);
 
 impl<T: Drop, R: Waits, A: Allocator + Copy> Shared<T, R, A> {
-    // If the list can't grow, it takes as many as there is room for.
     #[inline(never)]
     pub(crate) fn poll_many(
         &self,

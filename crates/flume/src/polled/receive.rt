@@ -19,21 +19,17 @@ use futures::task::{Context, Poll};
 use std::alloc::{Allocator, Global};
 use std::fmt;
 
-/// The next message, as a future: `Receiver::recv_async` and `Receiver::into_recv_async`.
-/// `Disconnected`: none is there, and all senders have been dropped. `NoMemory`: none is there, and
-/// there was no memory to wait; polled again it tries again.
-///
-/// Polled after it was ready, it asks for one message more. If it is dropped while it waits, a
-/// message that it was woken for is left to another receiver.
+/// The next message, as a future, with the errors of `recv`. Polled after `NoMemory` it tries
+/// again; polled after it was ready with a message, it asks for one message more. If it is dropped
+/// while it waits, no message is lost: one that it was woken for is left to another receiver.
 pub struct RecvFut<'a, T, R: Waits, A: Allocator + Copy = Global> {
-    receiver: OwnedOrRef<'a, Receiver<T, R, A>>,
+    pub(crate) receiver: OwnedOrRef<'a, Receiver<T, R, A>>,
     call: PolledReceive,
     task: Task,
 }
 
 impl<T: Drop, R: Waits, A: Allocator + Copy> Receiver<T, R, A> {
     /// The next message as a future that borrows the receiver. Doesn't allocate.
-    ///
     /// ```
     /// let (tx, rx) = flume::on(rt).unbounded()?;
     /// tx.send(42)?;
@@ -67,19 +63,6 @@ impl<'a, T: Drop, R: Waits, A: Allocator + Copy> RecvFut<'a, T, R, A> {
         }
     }
 
-    #[inline(always)]
-    pub(crate) fn receiver(&self) -> &Receiver<T, R, A>
-        ensures receiver { result.now ≡ end_of self.now.receiver }
-    {
-        self.receiver.get()
-    }
-
-    pub(crate) fn owned_or_ref(&self) -> &OwnedOrRef<'a, Receiver<T, R, A>>
-        ensures end { result.now ≡ self.now.receiver }
-    {
-        &self.receiver
-    }
-
     pub(crate) fn poll_many(
         &mut self,
         cx: &mut Context<'_>,
@@ -102,39 +85,38 @@ impl<'a, T: Drop, R: Waits, A: Allocator + Copy> RecvFut<'a, T, R, A> {
     pub fn is_disconnected(&self) -> bool
         ensures made { HasReplied {T = T} {A = A} Step.IsDisconnected (Reply.Truth result) }
     {
-        self.receiver().is_disconnected()
+        self.receiver.get().is_disconnected()
     }
 
     /// Whether no message is queued.
     pub fn is_empty(&self) -> bool
         ensures made { HasReplied {T = T} {A = A} Step.IsEmpty (Reply.Truth result) }
     {
-        self.receiver().is_empty()
+        self.receiver.get().is_empty()
     }
 
     /// Whether a bounded channel's queue is at or past its capacity.
     pub fn is_full(&self) -> bool
         ensures made { HasReplied {T = T} {A = A} Step.IsFull (Reply.Truth result) }
     {
-        self.receiver().is_full()
+        self.receiver.get().is_full()
     }
 
     /// How many messages are queued.
     pub fn len(&self) -> usize
         ensures made { HasReplied {T = T} {A = A} Step.Len (Reply.Number result) }
     {
-        self.receiver().len()
+        self.receiver.get().len()
     }
 
     /// The capacity, or `None` if unbounded.
     pub fn capacity(&self) -> Option<usize>
         ensures made { HasReplied {T = T} {A = A} Step.Capacity (Reply.Capacity result) }
     {
-        self.receiver().capacity()
+        self.receiver.get().capacity()
     }
 
-    /// Whether the channel is disconnected and no message is queued. It doesn't say that this
-    /// future was ready.
+    /// Whether the channel is disconnected and no message is queued, not whether this was ready.
     pub fn is_terminated(&self) -> bool
         ensures made { IsTerminated T A result }
     {

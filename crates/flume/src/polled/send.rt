@@ -24,21 +24,17 @@ use std::collections::VecDeque;
 use std::fmt;
 use std::mem::replace;
 
-/// A send, as a future: `Sender::send_async` and `Sender::into_send_async`. Nothing is sent until
-/// it is polled. `Disconnected`: all receivers have been dropped, and the message wasn't taken in.
-/// `NoMemory`: out of memory. Both give the message back.
-///
-/// After it was ready it answers `Ok`, and does nothing. If it is dropped while it waits, it takes
-/// its message back and drops it.
+/// A send, as a future, with the errors of `send`. Nothing is sent until it is polled. After it was
+/// ready it answers `Ok`, and does nothing. If it is dropped while it waits, it takes its message
+/// back and drops it.
 pub struct SendFut<'a, T, R: Waits, A: Allocator + Copy = Global> {
-    sender: OwnedOrRef<'a, Sender<T, R, A>>,
+    pub(crate) sender: OwnedOrRef<'a, Sender<T, R, A>>,
     send: PolledSend<T>,
     task: Task,
 }
 
 impl<T: Drop, R: Waits, A: Allocator + Copy> Sender<T, R, A> {
     /// Sends a message as a future that borrows the sender. Doesn't allocate.
-    ///
     /// ```
     /// let (tx, rx) = flume::on(rt).unbounded()?;
     /// assert_eq!(rt; block_on(&rt, tx.send_async(42))?, Ok(()));
@@ -72,20 +68,6 @@ impl<'a, T: Drop, R: Waits, A: Allocator + Copy> SendFut<'a, T, R, A> {
         }
     }
 
-    #[inline(always)]
-    pub(crate) fn sender(&self) -> &Sender<T, R, A>
-        ensures sender { result.now ≡ end_of self.now.sender }
-    {
-        self.sender.get()
-    }
-
-    pub(crate) fn owned_or_ref(&self) -> &OwnedOrRef<'a, Sender<T, R, A>>
-        ensures end { result.now ≡ self.now.sender }
-    {
-        &self.sender
-    }
-
-    // A message that it holds, or that is blocked, is dropped.
     pub(crate) fn restart(&mut self, message: T)
         ensures send { self.new.send ≡ PolledSend.Unsent message }
         ensures sender { self.new.sender ≡ self.old.sender }
@@ -121,38 +103,38 @@ impl<'a, T: Drop, R: Waits, A: Allocator + Copy> SendFut<'a, T, R, A> {
     pub fn is_disconnected(&self) -> bool
         ensures made { HasReplied {T = T} {A = A} Step.IsDisconnected (Reply.Truth result) }
     {
-        self.sender().is_disconnected()
+        self.sender.get().is_disconnected()
     }
 
     /// Whether no message is queued.
     pub fn is_empty(&self) -> bool
         ensures made { HasReplied {T = T} {A = A} Step.IsEmpty (Reply.Truth result) }
     {
-        self.sender().is_empty()
+        self.sender.get().is_empty()
     }
 
     /// Whether a bounded channel's queue is at or past its capacity.
     pub fn is_full(&self) -> bool
         ensures made { HasReplied {T = T} {A = A} Step.IsFull (Reply.Truth result) }
     {
-        self.sender().is_full()
+        self.sender.get().is_full()
     }
 
     /// How many messages are queued.
     pub fn len(&self) -> usize
         ensures made { HasReplied {T = T} {A = A} Step.Len (Reply.Number result) }
     {
-        self.sender().len()
+        self.sender.get().len()
     }
 
     /// The capacity, or `None` if unbounded.
     pub fn capacity(&self) -> Option<usize>
         ensures made { HasReplied {T = T} {A = A} Step.Capacity (Reply.Capacity result) }
     {
-        self.sender().capacity()
+        self.sender.get().capacity()
     }
 
-    /// Whether the channel is disconnected. It doesn't say that this future was ready.
+    /// Whether the channel is disconnected, not whether this was ready.
     pub fn is_terminated(&self) -> bool
         ensures made { HasReplied {T = T} {A = A} Step.IsDisconnected (Reply.Truth result) }
     {
@@ -211,7 +193,6 @@ impl<T: Drop, R: Waits, A: Allocator + Copy> fmt::Debug for SendFut<'_, T, R, A>
 }
 
 impl<T: Drop, R: Waits, A: Allocator + Copy> Drop for SendFut<'_, T, R, A> {
-    // The waker that it left is dropped, and that wakes its task once more.
     #[inline(always)]
     fn drop(self) {
         let Self {

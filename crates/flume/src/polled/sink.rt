@@ -24,33 +24,31 @@ use std::alloc::{AllocError, Allocator, Global};
 use std::collections::VecDeque;
 use std::fmt;
 
-/// A sender as a sink: `Sender::sink` and `Sender::into_sink`. `start_send` keeps the message, and
-/// drops one that it kept before and that wasn't sent. `poll_ready`, `poll_flush` and `poll_close`
-/// send it; none closes the channel. The errors are those of `SendFut`.
+/// A sender as a sink. `start_send` keeps the message, and drops one that it kept before and that
+/// wasn't sent. The polls send it, with the errors of `send`; none closes the channel.
 #[derive(Drop)]
 pub struct SendSink<'a, T, R: Waits, A: Allocator + Copy = Global> {
-    kept: SendFut<'a, T, R, A>,
+    future: SendFut<'a, T, R, A>,
 }
 
 impl<T: Drop, R: Waits, A: Allocator + Copy> Sender<T, R, A> {
     /// The sender as a sink that borrows it. Doesn't allocate.
-    ///
     /// ```
     /// let (tx, rx) = flume::on(rt).unbounded()?;
     /// let _sink = block_on(&rt, tx.sink().send(42))?;
     /// assert_eq!(rt; rx.recv(), Ok(42));
     /// ```
     pub fn sink(&self) -> SendSink<'_, T, R, A>
-        ensures channel { end_of result.kept.sender ≡ self.now }
-        ensures nothing_kept { result.kept.send ≡ PolledSend.Finished }
+        ensures channel { end_of result.future.sender ≡ self.now }
+        ensures no_message { result.future.send ≡ PolledSend.Finished }
     {
         SendSink::new(OwnedOrRef::Ref(self))
     }
 
     /// The sender as a sink that owns it. Doesn't allocate.
     pub fn into_sink<'a>(self) -> SendSink<'a, T, R, A>
-        ensures channel { end_of result.kept.sender ≡ self }
-        ensures nothing_kept { result.kept.send ≡ PolledSend.Finished }
+        ensures channel { end_of result.future.sender ≡ self }
+        ensures no_message { result.future.send ≡ PolledSend.Finished }
     {
         SendSink::new(OwnedOrRef::Owned(self))
     }
@@ -58,21 +56,17 @@ impl<T: Drop, R: Waits, A: Allocator + Copy> Sender<T, R, A> {
 
 impl<'a, T: Drop, R: Waits, A: Allocator + Copy> SendSink<'a, T, R, A> {
     pub(crate) fn new(sender: OwnedOrRef<'a, Sender<T, R, A>>) -> Self
-        ensures sender { result.kept.sender ≡ sender.entry }
-        ensures finished { result.kept.send ≡ Finished }
+        ensures sender { result.future.sender ≡ sender.entry }
+        ensures finished { result.future.send ≡ Finished }
     {
         SendSink {
-            kept: SendFut::new(sender, PolledSend::Finished),
+            future: SendFut::new(sender, PolledSend::Finished),
         }
     }
 
-    /// Polls for these messages to be sent, in order, behind one that the sink keeps. Ready with
-    /// `Ok`: all are sent, and the list is empty, without its room. Pending: the channel is full;
-    /// the sink keeps the next message, and those behind it stay in the list.
-    ///
-    /// The errors are those of `SendFut`. An error has the first message that wasn't sent. Those
-    /// behind it stay in the list, and the sink keeps none.
-    ///
+    /// Polls for these messages to be sent, in order, behind one that the sink keeps. `Ok`: all are
+    /// sent, and the list has lost its room. Pending: the sink keeps the next message. An error has
+    /// the first that wasn't sent, and the sink keeps none. Those behind it stay in the list.
     /// ```
     /// let (tx, rx) = flume::on(rt).bounded(1)?;
     /// let mut sink = tx.sink();
@@ -93,19 +87,19 @@ impl<'a, T: Drop, R: Waits, A: Allocator + Copy> SendSink<'a, T, R, A> {
         messages: &mut VecDeque<T, A>,
     ) -> Poll<Result<(), SendError<T>>>
         ensures all { result ≡ Poll.Ready (Ok tt) → messages.new.items ≡ [] }
-        ensures left { IsEndOf messages.old.items messages.new.items }
-        ensures leaves { PollLeaves self.old.kept.send messages.old.items messages.new.items
+        ensures rest { IsEndOf messages.old.items messages.new.items }
+        ensures leaves { PollLeaves self.old.future.send messages.old.items messages.new.items
             (answer_of result) }
-        ensures finished { IfReady result (λ _. self.new.kept.send ≡ Finished) }
-        ensures parked { OnPending result ((ticket : ℕ) × (self.new.kept.send ≡ Parked ticket)) }
-        ensures sender { self.new.kept.sender ≡ self.old.kept.sender }
+        ensures finished { IfReady result (λ _. self.new.future.send ≡ Finished) }
+        ensures parked { OnPending result ((ticket : ℕ) × (self.new.future.send ≡ Parked ticket)) }
+        ensures sender { self.new.future.sender ≡ self.old.future.sender }
         ensures registered { OnPending result
-            (Covers cx.new (λ source. source ≡ self.new.kept.task.source.id)) }
+            (Covers cx.new (λ source. source ≡ self.new.future.task.source.id)) }
         ensures kept { Keeps cx.old cx.new }
     {
-        let mut answer = self.kept.poll_sends(cx, messages);
+        let mut answer = self.future.poll_sends(cx, messages);
         while !messages.is_empty() && is_sent(&answer) {
-            answer = self.kept.poll_sends(cx, messages);
+            answer = self.future.poll_sends(cx, messages);
         }
         match answer {
             Some(answer) => Poll::Ready(answer),
@@ -115,49 +109,49 @@ impl<'a, T: Drop, R: Waits, A: Allocator + Copy> SendSink<'a, T, R, A> {
 
     /// The sender that it sends by.
     pub fn sender(&self) -> &Sender<T, R, A>
-        ensures sender { result.now ≡ end_of self.now.kept.sender }
+        ensures sender { result.now ≡ end_of self.now.future.sender }
     {
-        self.kept.sender()
+        self.future.sender.get()
     }
 
     /// Whether all receivers, or all senders, have been dropped.
     pub fn is_disconnected(&self) -> bool
         ensures made { HasReplied {T = T} {A = A} Step.IsDisconnected (Reply.Truth result) }
     {
-        self.kept.is_disconnected()
+        self.future.is_disconnected()
     }
 
     /// Whether no message is queued.
     pub fn is_empty(&self) -> bool
         ensures made { HasReplied {T = T} {A = A} Step.IsEmpty (Reply.Truth result) }
     {
-        self.kept.is_empty()
+        self.future.is_empty()
     }
 
     /// Whether a bounded channel's queue is at or past its capacity.
     pub fn is_full(&self) -> bool
         ensures made { HasReplied {T = T} {A = A} Step.IsFull (Reply.Truth result) }
     {
-        self.kept.is_full()
+        self.future.is_full()
     }
 
     /// How many messages are queued. One that the sink keeps isn't.
     pub fn len(&self) -> usize
         ensures made { HasReplied {T = T} {A = A} Step.Len (Reply.Number result) }
     {
-        self.kept.len()
+        self.future.len()
     }
 
     /// The capacity, or `None` if unbounded.
     pub fn capacity(&self) -> Option<usize>
         ensures made { HasReplied {T = T} {A = A} Step.Capacity (Reply.Capacity result) }
     {
-        self.kept.capacity()
+        self.future.capacity()
     }
 
     /// Whether both send into channels of the same number.
     pub fn same_channel(&self, other: &Self) -> bool
-        ensures same { result ≡ (end_of self.now.kept.sender == end_of other.now.kept.sender) }
+        ensures same { result ≡ (end_of self.now.future.sender == end_of other.now.future.sender) }
     {
         self.sender().same_channel(other.sender())
     }
@@ -166,11 +160,11 @@ impl<'a, T: Drop, R: Waits, A: Allocator + Copy> SendSink<'a, T, R, A> {
 impl<T: Drop, R: Waits, A: Allocator + Copy> Sink<T> for SendSink<'_, T, R, A> {
     type Error = SendError<T>;
 
-    ghost is_flushed = { λ sink. sink.kept.send ≡ Finished };
+    ghost is_flushed = { λ sink. sink.future.send ≡ Finished };
 
-    ghost is_closed = { λ sink. sink.kept.send ≡ Finished };
+    ghost is_closed = { λ sink. sink.future.send ≡ Finished };
 
-    ghost needs = { λ sink source. source ≡ sink.kept.task.source.id };
+    ghost needs = { λ sink source. source ≡ sink.future.task.source.id };
 
     fn poll_ready(&mut self, cx: &mut Context<'_>) -> Poll<Result<(), SendError<T>>>
         ensures ready { IfReady result (λ answer. OnOk answer (⊤ × ⊤)) }
@@ -178,61 +172,61 @@ impl<T: Drop, R: Waits, A: Allocator + Copy> Sink<T> for SendSink<'_, T, R, A> {
         ensures same { T → ⊤ → ⊤ }
         ensures history { UnlessFailed result (List T → ⊤ → ⊤) }
         ensures registered { OnPending result
-            (Covers cx.new (λ source. source ≡ self.new.kept.task.source.id)) }
+            (Covers cx.new (λ source. source ≡ self.new.future.task.source.id)) }
         ensures kept { Keeps cx.old cx.new }
-        ensures sends { IsPollOfSend A self.old.kept.send self.new.kept.send result }
-        ensures sender { self.new.kept.sender ≡ self.old.kept.sender }
+        ensures sends { IsPollOfSend A self.old.future.send self.new.future.send result }
+        ensures sender { self.new.future.sender ≡ self.old.future.sender }
     {
-        self.kept.poll(cx)
+        self.future.poll(cx)
     }
 
     fn start_send(&mut self, message: T) -> Result<(), SendError<T>>
         ensures goes { OnOk result ⊤ }
         ensures same { T → ⊤ → ⊤ }
         ensures history { OnOk result ((items : List T) → ⊤ → ⊤) }
-        ensures keeps { self.new.kept.send ≡ PolledSend.Unsent message }
-        ensures sender { self.new.kept.sender ≡ self.old.kept.sender }
+        ensures keeps { self.new.future.send ≡ PolledSend.Unsent message }
+        ensures sender { self.new.future.sender ≡ self.old.future.sender }
         ensures ok { result ≡ Ok tt }
     {
-        self.kept.restart(message);
+        self.future.restart(message);
         Ok(())
     }
 
     fn poll_flush(&mut self, cx: &mut Context<'_>) -> Poll<Result<(), SendError<T>>>
         ensures goes { IfReady result (λ answer. OnOk answer ⊤) }
-        ensures flushed { IfReady result (λ answer. OnOk answer (self.new.kept.send ≡ Finished)) }
+        ensures flushed { IfReady result (λ answer. OnOk answer (self.new.future.send ≡ Finished)) }
         ensures again { OnPending result ⊤ }
         ensures same { T → ⊤ → ⊤ }
         ensures history { UnlessFailed result (List T → ⊤ → ⊤) }
         ensures registered { OnPending result
-            (Covers cx.new (λ source. source ≡ self.new.kept.task.source.id)) }
+            (Covers cx.new (λ source. source ≡ self.new.future.task.source.id)) }
         ensures kept { Keeps cx.old cx.new }
-        ensures sends { IsPollOfSend A self.old.kept.send self.new.kept.send result }
-        ensures sender { self.new.kept.sender ≡ self.old.kept.sender }
+        ensures sends { IsPollOfSend A self.old.future.send self.new.future.send result }
+        ensures sender { self.new.future.sender ≡ self.old.future.sender }
     {
-        self.kept.poll(cx)
+        self.future.poll(cx)
     }
 
     fn poll_close(&mut self, cx: &mut Context<'_>) -> Poll<Result<(), SendError<T>>>
-        ensures closed { IfReady result (λ answer. OnOk answer (self.new.kept.send ≡ Finished)) }
+        ensures closed { IfReady result (λ answer. OnOk answer (self.new.future.send ≡ Finished)) }
         ensures again { OnPending result ⊤ }
         ensures history { UnlessFailed result (List T → ⊤ → ⊤) }
         ensures registered { OnPending result
-            (Covers cx.new (λ source. source ≡ self.new.kept.task.source.id)) }
+            (Covers cx.new (λ source. source ≡ self.new.future.task.source.id)) }
         ensures kept { Keeps cx.old cx.new }
-        ensures sends { IsPollOfSend A self.old.kept.send self.new.kept.send result }
-        ensures sender { self.new.kept.sender ≡ self.old.kept.sender }
+        ensures sends { IsPollOfSend A self.old.future.send self.new.future.send result }
+        ensures sender { self.new.future.sender ≡ self.old.future.sender }
     {
-        self.kept.poll(cx)
+        self.future.poll(cx)
     }
 }
 
 impl<T: Drop, R: Waits, A: Allocator + Copy> Clone for SendSink<'_, T, R, A> {
-    ghost is_clone = { λ sink copy. (end_of copy.kept.sender ≡ end_of sink.kept.sender)
-        × (copy.kept.send ≡ Finished) };
+    ghost is_clone = { λ sink copy. (end_of copy.future.sender ≡ end_of sink.future.sender)
+        × (copy.future.send ≡ Finished) };
 
     fn clone(&self) -> Result<Self, AllocError> {
-        Ok(SendSink::new(self.kept.owned_or_ref().clone()?))
+        Ok(SendSink::new(self.future.sender.clone()?))
     }
 }
 

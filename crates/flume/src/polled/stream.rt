@@ -25,9 +25,7 @@ use std::alloc::{AllocError, Allocator, Global};
 use std::fmt;
 use std::mem::replace;
 
-/// The messages of a receiver, as a stream: `Receiver::stream` and `Receiver::into_stream`. `None`:
-/// none is there and all senders have been dropped, or, if `fault` says so, there was no memory to
-/// wait: then there may be more.
+/// The messages of a receiver, as a stream. It ends as `Iter` does.
 #[derive(Drop)]
 pub struct RecvStream<'a, T, R: Waits, A: Allocator + Copy = Global> {
     next: RecvFut<'a, T, R, A>,
@@ -36,7 +34,6 @@ pub struct RecvStream<'a, T, R: Waits, A: Allocator + Copy = Global> {
 
 impl<T: Drop, R: Waits, A: Allocator + Copy> Receiver<T, R, A> {
     /// The messages as a stream that borrows the receiver. Doesn't allocate.
-    ///
     /// ```
     /// let (tx, rx) = flume::on(rt).unbounded()?;
     /// tx.send(42)?;
@@ -74,8 +71,7 @@ impl<'a, T: Drop, R: Waits, A: Allocator + Copy> RecvStream<'a, T, R, A> {
         }
     }
 
-    /// Whether the last poll gave nothing because memory ran out. The stream can be polled on after
-    /// it.
+    /// Whether the last poll gave nothing because memory ran out: then more may come.
     pub fn fault(&self) -> bool
         ensures fault { result ≡ self.now.fault }
     {
@@ -89,13 +85,8 @@ impl<'a, T: Drop, R: Waits, A: Allocator + Copy> RecvStream<'a, T, R, A> {
         if self.fault { Err(NoMemory) } else { Ok(()) }
     }
 
-    /// Polls for the messages that are there, at most `most`, and puts them behind what `into`
-    /// holds, in order. Ready with how many. If `most` is 0, it is ready with 0.
-    ///
-    /// `Disconnected`: none is there, and all senders have been dropped. `NoMemory`: `into`
-    /// couldn't grow by one message, or there was no memory to wait. Both leave `into` as it was,
-    /// and take nothing. If `into` can't grow further, it takes as many as there is room for.
-    ///
+    /// As `Receiver::recv_many`, polled. `NoMemory`: `into` couldn't grow by one message, or there
+    /// was none to wait. If it can't grow further, it takes what there is room for.
     /// ```
     /// let (tx, rx) = flume::on(rt).unbounded()?;
     /// tx.send(1)?;
@@ -140,7 +131,7 @@ impl<'a, T: Drop, R: Waits, A: Allocator + Copy> RecvStream<'a, T, R, A> {
             self.fault = true;
             return Poll::Ready(Err(RecvError::NoMemory));
         }
-        let list = replace(into, Vec::new(self.next.receiver().shared().alloc));
+        let list = replace(into, Vec::new(self.next.receiver.get().shared().alloc));
         let (list, answer) = self.next.poll_many(cx, list, most - 1);
         *into = list;
         let Some(answer) = answer else {
@@ -213,7 +204,10 @@ impl<'a, T: Drop, R: Waits, A: Allocator + Copy> RecvStream<'a, T, R, A> {
         ensures same { result
             ≡ (end_of self.now.next.receiver == end_of other.now.next.receiver) }
     {
-        self.next.receiver().same_channel(other.next.receiver())
+        self.next
+            .receiver
+            .get()
+            .same_channel(other.next.receiver.get())
     }
 }
 
@@ -260,7 +254,7 @@ impl<T: Drop, R: Waits, A: Allocator + Copy> Clone for RecvStream<'_, T, R, A> {
         × (copy.next.call ≡ record { kind = Stream; call = None }) × (copy.fault ≡ false) };
 
     fn clone(&self) -> Result<Self, AllocError> {
-        Ok(RecvStream::new(self.next.owned_or_ref().clone()?))
+        Ok(RecvStream::new(self.next.receiver.clone()?))
     }
 }
 

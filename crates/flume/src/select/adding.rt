@@ -38,11 +38,7 @@ pub type WithSends<'a, V, L, T, F, R: Waits, A: Allocator + Copy> = Selector<
 
 impl<'a, V, L: Arms<V, A> + Drop, A: Allocator + Copy> Selector<'a, V, L, A> {
     /// Adds an arm as of `recv` for each receiver of the list, in order. They share the mapper,
-    /// which also gets the receiver's place in the list, from 0 on.
-    ///
-    /// `NoArm`: the list is empty, and no arm was added before. `NoMemory`: the list of arms
-    /// couldn't be allocated. Both drop the selector.
-    ///
+    /// which also gets the receiver's place in the list, from 0 on. An error drops the selector.
     /// ```
     /// let (_one, first) = flume::on(rt).unbounded::<u64>()?;
     /// let (two, second) = flume::on(rt).unbounded::<u64>()?;
@@ -79,11 +75,7 @@ impl<'a, V, L: Arms<V, A> + Drop, A: Allocator + Copy> Selector<'a, V, L, A> {
         Ok(self.with_each(arms, mapper, count, (rt, alloc)))
     }
 
-    /// Adds an arm as of `send` for each pair of the list, in order. They share the mapper, which
-    /// also gets the pair's place in the list, from 0 on.
-    ///
-    /// `NoArm` and `NoMemory` as of `recv_each`; both drop the messages too.
-    ///
+    /// As `recv_each`, with an arm as of `send` for each pair. An error drops the messages too.
     /// ```
     /// let (one, _first) = flume::on(rt).bounded::<u64>(0)?;
     /// let (two, second) = flume::on(rt).bounded::<u64>(1)?;

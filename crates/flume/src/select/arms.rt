@@ -11,7 +11,6 @@ use std::sync::Arc;
 
 /// What a selection does to one of its arms, `SendArm` or `RecvArm`.
 pub trait ArmTurns<A: Allocator + Copy> {
-    /// Of its channel.
     type Runtime: Waits;
 
     /// `()` if the arm is one of a list.
@@ -21,7 +20,6 @@ pub trait ArmTurns<A: Allocator + Copy> {
 
     ghost has_completed: { Self → Type 0 };
 
-    // With whether the arm may park.
     ghost turns: { Bool → Self → ArmNext → Self → Type 0 };
 
     ghost withdraws: { Self → Self → Type 0 };
@@ -36,8 +34,7 @@ pub trait ArmTurns<A: Allocator + Copy> {
     fn checks(&self) -> u32;
 
     /// Starts the arm, or polls it if it was started before. If it parks it leaves a copy of the
-    /// parker, with its number. Without a parker it doesn't park, and stays as it was if it would
-    /// have to wait.
+    /// parker, with its number. Without a parker it doesn't park.
     fn turn(&mut self, number: usize, parker: Option<&Arc<Parker, A>>) -> ArmNext
         ensures does { turns (is_some parker.entry) self.old result self.new }
         ensures completed { result ≡ ArmNext.Completed → has_completed self.new }
@@ -54,10 +51,8 @@ pub trait ArmTurns<A: Allocator + Copy> {
 pub trait Arm<V, A: Allocator + Copy>: ArmTurns<A> {
     ghost can_map: { Self.Mapper → Type 0 };
 
-    // What the mapper answers to some result.
     ghost maps: { Self.Mapper → V → Type 0 };
 
-    // What it answers to the arm's own result.
     ghost answers: { Self → V → Type 0 };
 
     /// What its mapper answers to its result. `None`: it hasn't completed.
@@ -123,18 +118,15 @@ pub trait Arms<V, A: Allocator + Copy> {
             → has_completed self.new other }
         ensures mappers { mappers self.new ≡ mappers self.old };
 
-    /// What the mapper of the arm with this number answers. `None`: there is no such arm, or it
-    /// hasn't completed.
+    /// As `Arm::value`, of the arm with this number; `None` also if there is no such arm.
     fn value(self, arm: usize) -> Option<V>
         requires can_map { can_map (mappers self) }
         ensures completed { has_completed self arm ↔ IsSome result }
         ensures maps { IfSome result (maps (mappers self) arm) };
 }
 
-/// Arms that can be waited for, since there is one. All their channels have one type of allocator,
-/// since they share the parker.
+/// Arms that can be waited for, since there is one.
 pub trait AtLeastOneArm<V, A: Allocator + Copy>: Arms<V, A> {
-    /// Of the last arm's channel.
     type Runtime: Waits;
 
     /// The runtime of the last arm's channel.

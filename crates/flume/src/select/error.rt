@@ -30,7 +30,6 @@ impl EachError {
     }
 }
 
-/// Padded and cut as text is.
 impl fmt::Display for EachError {
     ghost output = { λ e. Some (each_text e) };
 

@@ -80,9 +80,9 @@ impl<'a, T: Drop, F: Drop, R: Waits, A: Allocator + Copy> RecvArm<'a, T, F, R, A
         ensures does { PollsReceive A call result self.new.state }
         ensures mapper { self.new.mapper ≡ self.old.mapper }
     {
-        let (late, signal) = (false, None);
+        let (last, signal) = (false, None);
         let shared = self.receiver.shared();
-        let (state, answer) = next_state(shared.call_cold(AgainReceive { call, late, signal }));
+        let (state, answer) = next_state(shared.call_cold(AgainReceive { call, last, signal }));
         self.state = state;
         answer
     }
@@ -90,9 +90,9 @@ impl<'a, T: Drop, F: Drop, R: Waits, A: Allocator + Copy> RecvArm<'a, T, F, R, A
     fn leave(&self, call: RecvCall)
         ensures withdrawn { HasWithdrawnReceive T A call }
     {
-        let (late, signal) = (true, None);
+        let (last, signal) = (true, None);
         let shared = self.receiver.shared();
-        match shared.call_cold(AgainReceive { call, late, signal }) {
+        match shared.call_cold(AgainReceive { call, last, signal }) {
             RecvNext::Done(result) => drop(result),
             _ => unreachable!(),
         }

@@ -79,9 +79,9 @@ impl<'a, T: Drop, F: Drop, R: Waits, A: Allocator + Copy> SendArm<'a, T, F, R, A
         ensures does { PollsSend A call result self.new.state }
         ensures mapper { self.new.mapper ≡ self.old.mapper }
     {
-        let (late, signal) = (false, None);
+        let (last, signal) = (false, None);
         let shared = self.sender.shared();
-        let (state, answer) = next_state(shared.call_cold(AgainSend { call, late, signal }));
+        let (state, answer) = next_state(shared.call_cold(AgainSend { call, last, signal }));
         self.state = state;
         answer
     }
@@ -89,9 +89,9 @@ impl<'a, T: Drop, F: Drop, R: Waits, A: Allocator + Copy> SendArm<'a, T, F, R, A
     fn take_back(&self, call: SendCall)
         ensures withdrawn { HasWithdrawnSend T A call }
     {
-        let (late, signal) = (true, None);
+        let (last, signal) = (true, None);
         let shared = self.sender.shared();
-        match shared.call_cold(AgainSend { call, late, signal }) {
+        match shared.call_cold(AgainSend { call, last, signal }) {
             SendNext::Done(result) => drop(result),
             _ => unreachable!(),
         }

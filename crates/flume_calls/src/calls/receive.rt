@@ -32,14 +32,11 @@ impl Model for RecvCall {
 /// What a turn of a receive leads to.
 #[derive(Drop)]
 pub enum RecvNext<T> {
-    /// The call has ended.
     Done(Result<T, RecvTimeoutError>),
-    /// No message is there, and nothing was done: the call may park.
+    /// There is no message, and nothing was done: the call may park.
     NeedSignal,
-    /// The call is parked.
     Park(RecvCall),
-    /// Out of memory; the call is parked as before. No turn of a `Chan` answers this, but the
-    /// abstract channel allows it.
+    /// Out of memory; it is parked as before. Only the abstract channel leads to it, not a `Chan`.
     Refused(RecvCall),
 }
 
@@ -52,10 +49,8 @@ impl RecvCall {
         self.ticket
     }
 
-    /// The first turn, `Chan::try_recv`, which doesn't park. `Done(Ok)`: the message at the front.
-    /// `NeedSignal`: there is none in an open channel. `Done(Err(Disconnected))`: there is none in
-    /// a closed one. The last two change nothing. Doesn't allocate.
-    ///
+    /// The first turn, `Chan::try_recv`, which doesn't park. `NeedSignal`: no message, in an open
+    /// channel. `Done(Err(Disconnected))`: none, in a closed one. Doesn't allocate.
     /// ```
     /// let mut chan: Chan<u64, u32> = Chan::new(alloc, None);
     /// RecvCall::first(&mut chan);        // NeedSignal
@@ -72,11 +67,8 @@ impl RecvCall {
         FirstReceive.apply(chan)
     }
 
-    /// The turn that may park, `Chan::recv`. `Done(Ok)`: the message at the front. `Park`: a
-    /// receiver of this kind waits behind all others, with the signal. `Done(Err(Disconnected))`:
-    /// no message, and the channel is closed. `Done(Err(NoMemory))`: out of memory, or every ticket
-    /// was issued. Both errors change nothing.
-    ///
+    /// The turn that may park, `Chan::recv`. `Done(Err(Disconnected))`: no message, in a closed
+    /// channel. `Done(Err(NoMemory))`: out of memory, or every ticket was issued.
     /// ```
     /// let mut chan: Chan<u64, u32> = Chan::new(alloc, None);
     /// RecvCall::park(Kind::Block, 10, &mut chan);      // Park(call), with the signal 10
@@ -93,14 +85,9 @@ impl RecvCall {
         ParkReceive { kind, signal }.apply(chan)
     }
 
-    /// A later turn: `Chan::poll`, or `Chan::withdraw` if `late` says that the deadline is reached.
-    /// `Done(Ok)`: the message that filled it, or else the front: before the deadline if it doesn't
-    /// block or was woken, at the deadline if it blocks. `Park`: it waits on, and a signal given
-    /// here replaces the one that it left. `Done(Err(Disconnected))`: no message for it in a closed
-    /// channel, or the ticket is spent. `Done(Err(Timeout))`: late, and no message for it in an
-    /// open channel. A late error passes on a wake that it had. All but `Park` spend the ticket.
-    /// Doesn't allocate.
-    ///
+    /// A later turn: `Chan::poll`, or `Chan::withdraw` if it is the `last`, as at its deadline.
+    /// `Done(Err(Disconnected))`: no message for it in a closed channel, or the ticket is spent.
+    /// `Done(Err(Timeout))`: it withdrew, with no message, in an open one. Doesn't allocate.
     /// ```
     /// let mut chan: Chan<u64, u32> = Chan::new(alloc, None);
     /// if let RecvNext::Park(call) = RecvCall::park(Kind::Block, 10, &mut chan) {
@@ -111,17 +98,17 @@ impl RecvCall {
     pub fn again<T: Drop, S: Drop, A: Allocator + Copy>(
         self,
         chan: &mut Chan<T, S, A>,
-        late: bool,
+        last: bool,
         signal: Option<S>,
     ) -> RecvNext<T>
-        ensures turn { Turned {A = A} (step_of_parked_receive self late)
-            (after_parked_receive self late) chan.old chan.new result }
-        ensures answers { IsAgain self late result }
+        ensures turn { Turned {A = A} (step_of_parked_receive self last)
+            (after_parked_receive self last) chan.old chan.new result }
+        ensures answers { IsAgain self last result }
         ensures not_refused { IsntRefused result }
-        ensures outcome { AgainReceiveOutcome self late signal chan.old chan.new result }
+        ensures outcome { AgainReceiveOutcome self last signal chan.old chan.new result }
     {
         let call = self;
-        AgainReceive { call, late, signal }.apply(chan)
+        AgainReceive { call, last, signal }.apply(chan)
     }
 }
 
@@ -155,9 +142,7 @@ impl<T: Drop, S: Drop, A: Allocator + Copy> Turn<T, S, A> for FirstReceive {
 /// `RecvCall::park`, as a value.
 #[derive(Drop)]
 pub struct ParkReceive<S> {
-    /// The kind of receiver that parks.
     pub kind: Kind,
-    /// What it leaves then.
     pub signal: S,
 }
 
@@ -187,11 +172,9 @@ impl<T: Drop, S: Drop, A: Allocator + Copy> Turn<T, S, A> for ParkReceive<S> {
 /// `RecvCall::again`, as a value.
 #[derive(Drop)]
 pub struct AgainReceive<S> {
-    /// The receive.
     pub call: RecvCall,
-    /// Whether its deadline is reached.
-    pub late: bool,
-    /// Replaces the signal that it left.
+    pub last: bool,
+    /// Replaces the one that it left.
     pub signal: Option<S>,
 }
 
@@ -199,18 +182,18 @@ impl<T: Drop, S: Drop, A: Allocator + Copy> Turn<T, S, A> for AgainReceive<S> {
     type Answer = RecvNext<T>;
 
     ghost does = { λ turn old new next.
-        Turned {A = A} (step_of_parked_receive turn.call turn.late)
-        (after_parked_receive turn.call turn.late) old new next
-        × AgainReceiveOutcome turn.call turn.late turn.signal old new next };
+        Turned {A = A} (step_of_parked_receive turn.call turn.last)
+        (after_parked_receive turn.call turn.last) old new next
+        × AgainReceiveOutcome turn.call turn.last turn.signal old new next };
 
     ghost leads = { λ _ old new next does. by_step does.0 };
 
-    ghost answers = { λ turn next. IsAgain turn.call turn.late next × IsntRefused next };
+    ghost answers = { λ turn next. IsAgain turn.call turn.last next × IsntRefused next };
 
-    // `NoTicket` comes only if the call is asked of another channel than the one it parked in.
+    // `NoTicket` comes only if the call parked in another channel.
     fn apply(self, chan: &mut Chan<T, S, A>) -> RecvNext<T> {
-        let AgainReceive { call, late, signal } = self;
-        if late {
+        let AgainReceive { call, last, signal } = self;
+        if last {
             match chan.withdraw(call.ticket) {
                 Reply::Got(message) => RecvNext::Done(Ok(message)),
                 Reply::Gone { closed, .. } if closed => RecvNext::Done(Err(Disconnected)),

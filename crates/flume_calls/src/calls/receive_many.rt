@@ -1,11 +1,9 @@
 //! Receives of many messages.
-ghost use Rattle.std.specs.Prelude.{◌≡◌, [], ◌+◌, ◌<◌, ◌≤◌, Ok, IfOk, IfErr};
-ghost use Rattle.std.specs.Prelude.{vec_len, vec_capacity};
+ghost use Rattle.std.specs.Prelude.{◌≡◌, [], ◌+◌, ◌<◌, ◌≤◌, Ok, IfOk, IfErr, vec_len, vec_capacity};
 ghost use Rattle.flume_model.specs.declared.step.Step.TheVariants.{TryRecv};
 ghost use Rattle.flume_state.specs.State.{message_count};
-ghost use Rattle.flume_calls.specs.ManyReceives.{Takes, TakesAll, AnswersMore, IsAtMost};
-ghost use Rattle.flume_calls.specs.ManyReceives.{MoreTable, FirstManyTable, TurnAndMore};
-ghost use Rattle.flume_calls.specs.ManyReceives.{given_by, with_more};
+ghost use Rattle.flume_calls.specs.ManyReceives.{Takes, TakesAll, AnswersMore, IsAtMost, MoreTable};
+ghost use Rattle.flume_calls.specs.ManyReceives.{FirstManyTable, TurnAndMore, given_by, with_more};
 ghost use Rattle.flume_calls.specs.ManyReceives.{FirstManyOutcome};
 ghost use Rattle.flume_calls.specs.ReceiveTurns as receive;
 ghost use Rattle.flume_calls.specs.Batches.{IsBatch, join_steps, by_steps};
@@ -20,19 +18,17 @@ use std::alloc::Allocator;
 /// What a receive of many messages leads to.
 #[derive(Drop)]
 pub struct ManyNext<T, A: Allocator> {
-    /// What it was given, and behind it the messages that it took.
+    /// What it was given, and behind it what it took.
     pub into: Vec<T, A>,
     /// As of a receive of one message; `Done(Ok)` says how many came.
     pub next: RecvNext<usize>,
 }
 
-/// A first receive of many, which doesn't park. `Done(Err(NoMemory))`: the list couldn't grow, and
-/// nothing was taken.
+/// A first receive of at most `most` messages, which doesn't park. `Done(Err(NoMemory))`: `into`
+/// couldn't grow, and nothing was taken.
 #[derive(Drop)]
 pub struct FirstReceiveMany<T, A: Allocator> {
-    /// What the messages are put behind.
     pub into: Vec<T, A>,
-    /// How many it takes at most.
     pub most: usize,
 }
 
@@ -69,13 +65,11 @@ impl<T: Drop, S: Drop, A: Allocator + Copy> Turn<T, S, A> for FirstReceiveMany<T
     }
 }
 
-/// Takes what is there, for a call that has a message already. Answers how many. If the list can't
-/// grow, it takes as many as there is room for.
+/// Takes what is there, at most `most`, and answers how many: if `into` can't grow, as many as it
+/// has room for.
 #[derive(Drop)]
 pub struct MoreReceives<T, A: Allocator> {
-    /// What the messages are put behind.
     pub into: Vec<T, A>,
-    /// How many it takes at most.
     pub most: usize,
 }
 
@@ -101,9 +95,7 @@ impl<T: Drop, S: Drop, A: Allocator + Copy> Turn<T, S, A> for MoreReceives<T, A>
 /// A turn of a receive, and if it gave a message, then [`MoreReceives`].
 #[derive(Drop)]
 pub struct ReceiveAndMore<C, T, A: Allocator> {
-    /// The turn.
     pub turn: C,
-    /// What the messages are put behind.
     pub into: Vec<T, A>,
     /// How many it takes at most besides the one that the turn gives.
     pub more: usize,
@@ -187,7 +179,7 @@ fn take_each<T: Drop, S: Drop, A: Allocator + Copy>(
     requires there { count ≤ message_count chan.old }
     requires room { vec_len into.old + count ≤ vec_capacity into.old }
     ensures took { Takes A chan.old into.old.items count chan.new into.new.items }
-    ensures left { message_count chan.new + count ≡ message_count chan.old }
+    ensures remaining { message_count chan.new + count ≡ message_count chan.old }
     ensures len { vec_len into.new ≡ vec_len into.old + count }
     ensures capacity { vec_capacity into.new ≡ vec_capacity into.old }
 {

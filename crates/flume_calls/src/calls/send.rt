@@ -32,11 +32,9 @@ impl Model for SendCall {
 /// What a turn of a send leads to.
 #[derive(Drop)]
 pub enum SendNext<T> {
-    /// The call has ended.
     Done(Result<(), SendTimeoutError<T>>),
     /// The channel is full, and nothing was done: the call may park.
     NeedSignal(T),
-    /// The call is parked.
     Park(SendCall),
 }
 
@@ -49,11 +47,8 @@ impl SendCall {
         self.ticket
     }
 
-    /// The first turn, `Chan::try_send`, which doesn't park. `Done(Ok)`: the message was taken in.
-    /// `NeedSignal`: the channel is full. `Done(Err(Disconnected))`: it is closed.
-    /// `Done(Err(NoMemory))`: the queue couldn't grow. The last three hand the message back and
-    /// change nothing.
-    ///
+    /// The first turn, `Chan::try_send`, which doesn't park. `Done(Err(Disconnected))`: the channel
+    /// is closed. `Done(Err(NoMemory))`: the queue couldn't grow.
     /// ```
     /// let mut chan: Chan<u64, u32> = Chan::new(alloc, Some(1));
     /// SendCall::first(1, &mut chan);     // Done(Ok(()))
@@ -72,11 +67,8 @@ impl SendCall {
         FirstSend { message }.apply(chan)
     }
 
-    /// The turn that may park, `Chan::send`. `Done(Ok)`: the message was taken in. `Park`: it is
-    /// blocked, with the signal. `Done(Err(Disconnected))`: the channel is closed.
-    /// `Done(Err(NoMemory))`: out of memory, or every ticket was issued. Both errors hand the
-    /// message back and change nothing.
-    ///
+    /// The turn that may park, `Chan::send`. `Done(Err(Disconnected))`: the channel is closed.
+    /// `Done(Err(NoMemory))`: out of memory, or every ticket was issued.
     /// ```
     /// let mut chan: Chan<u64, u32> = Chan::new(alloc, Some(0));
     /// SendCall::park(7, 10, &mut chan);  // Park(call), with the signal 10
@@ -93,12 +85,9 @@ impl SendCall {
         ParkSend { message, signal }.apply(chan)
     }
 
-    /// A later turn: `Chan::poll_send`, or `Chan::withdraw_send` if `late` says that the deadline
-    /// is reached. `Done(Ok)`: the message was taken in, or the ticket is spent. `Park`: still
-    /// blocked, and a signal given here replaces the one that it left. `Done(Err(Disconnected))`:
-    /// still blocked in a closed channel. `Done(Err(Timeout))`: late, and still blocked in an open
-    /// one. Both errors hand the message back. All but `Park` spend the ticket. Doesn't allocate.
-    ///
+    /// A later turn: `Chan::poll_send`, or `Chan::withdraw_send` if it is the `last`, as at its
+    /// deadline. `Done(Ok)`: the message was taken in, or the ticket is spent. `Timeout`: it
+    /// withdrew. `Disconnected`: still blocked, in a closed channel. Doesn't allocate.
     /// ```
     /// let mut chan: Chan<u64, u32> = Chan::new(alloc, Some(0));
     /// if let SendNext::Park(call) = SendCall::park(7, 10, &mut chan) {
@@ -108,16 +97,16 @@ impl SendCall {
     pub fn again<T: Drop, S: Drop, A: Allocator + Copy>(
         self,
         chan: &mut Chan<T, S, A>,
-        late: bool,
+        last: bool,
         signal: Option<S>,
     ) -> SendNext<T>
-        ensures turn { Turned {A = A} (step_of_parked_send self late)
-            (after_parked_send self late) chan.old chan.new result }
-        ensures answers { IsAgain self late result }
-        ensures outcome { AgainSendOutcome A self late signal chan.old chan.new result }
+        ensures turn { Turned {A = A} (step_of_parked_send self last)
+            (after_parked_send self last) chan.old chan.new result }
+        ensures answers { IsAgain self last result }
+        ensures outcome { AgainSendOutcome A self last signal chan.old chan.new result }
     {
         let call = self;
-        AgainSend { call, late, signal }.apply(chan)
+        AgainSend { call, last, signal }.apply(chan)
     }
 
     /// Whether it is blocked in an open channel. No step; doesn't allocate.
@@ -132,7 +121,6 @@ impl SendCall {
 /// `SendCall::first`, as a value.
 #[derive(Drop)]
 pub struct FirstSend<T> {
-    /// What is offered.
     pub message: T,
 }
 
@@ -164,9 +152,7 @@ impl<T: Drop, S: Drop, A: Allocator + Copy> Turn<T, S, A> for FirstSend<T> {
 /// `SendCall::park`, as a value.
 #[derive(Drop)]
 pub struct ParkSend<T, S> {
-    /// What is offered.
     pub message: T,
-    /// What it leaves if it blocks.
     pub signal: S,
 }
 
@@ -199,30 +185,28 @@ impl<T: Drop, S: Drop, A: Allocator + Copy> Turn<T, S, A> for ParkSend<T, S> {
 /// `SendCall::again`, as a value.
 #[derive(Drop)]
 pub struct AgainSend<S> {
-    /// The send.
     pub call: SendCall,
-    /// Whether its deadline is reached.
-    pub late: bool,
-    /// Replaces the signal that it left.
+    pub last: bool,
+    /// Replaces the one that it left.
     pub signal: Option<S>,
 }
 
 impl<T: Drop, S: Drop, A: Allocator + Copy> Turn<T, S, A> for AgainSend<S> {
     type Answer = SendNext<T>;
 
-    ghost does = { λ turn old new next. Turned {A = A} (step_of_parked_send turn.call turn.late)
-        (after_parked_send turn.call turn.late) old new next
-        × AgainSendOutcome A turn.call turn.late turn.signal old new next };
+    ghost does = { λ turn old new next.
+        Turned {A = A} (step_of_parked_send turn.call turn.last)
+        (after_parked_send turn.call turn.last) old new next
+        × AgainSendOutcome A turn.call turn.last turn.signal old new next };
 
     ghost leads = { λ _ old new next does. by_step does.0 };
 
-    ghost answers = { λ turn. IsAgain turn.call turn.late };
+    ghost answers = { λ turn. IsAgain turn.call turn.last };
 
-    // `NoTicket` comes only if the call is asked of another channel than the one it parked in. The
-    // answer is `Ok`, since there is no message to hand back.
+    // `NoTicket` comes only if the call parked in another channel. No message can be handed back.
     fn apply(self, chan: &mut Chan<T, S, A>) -> SendNext<T> {
-        let AgainSend { call, late, signal } = self;
-        if late {
+        let AgainSend { call, last, signal } = self;
+        if last {
             match chan.withdraw_send(call.ticket) {
                 Reply::Accepted => SendNext::Done(Ok(())),
                 Reply::NoTicket => SendNext::Done(Ok(())),

@@ -10,10 +10,8 @@ use flume_model::step::Reply;
 use std::alloc::Allocator;
 use std::collections::VecDeque;
 
-/// Offers these messages in order by `Chan::try_send`, up to the first that is refused. `Full`,
-/// `Disconnected`, `NoMemory`: why it was refused. The error has the messages that weren't taken
-/// in, in order. An empty list makes no step. Allocates only in the channel.
-///
+/// Offers these messages in order by `Chan::try_send`, up to the first that is refused. The error
+/// says why, and has that one and the rest, in order. Allocates only in the channel.
 /// ```
 /// let messages = VecDeque::from_vec(vec![in alloc; 1, 2, 3]?);
 /// let mut chan: Chan<u64, u32> = Chan::new(alloc, Some(2));
@@ -21,7 +19,6 @@ use std::collections::VecDeque;
 /// ```
 #[derive(Drop)]
 pub struct SendMany<T, A: Allocator> {
-    /// What is offered, the first one first.
     pub messages: VecDeque<T, A>,
 }
 

@@ -9,8 +9,7 @@ use crate::calls::{RecvCall, RecvNext};
 use flume_core::error::RecvTimeoutError::{self, NoMemory};
 use std::sync::Wait;
 
-/// How a blocking receive of messages `T` reaches its channel. Each method has a relation from the
-/// gate before to the gate after.
+/// How a blocking receive reaches its channel. Relations are from the gate before to that after.
 pub trait RecvGate<T> {
     /// What the call waits on.
     type Waiter: Drop;
@@ -18,25 +17,23 @@ pub trait RecvGate<T> {
     /// The signal that the call leaves as it parks.
     type Signal: Drop;
 
-    ghost firsts: { Self → Self → RecvNext T → Type 0 };
+    ghost first_turn: { Self → Self → RecvNext T → Type 0 };
 
-    // With whether there is a waiter.
     ghost makes: { Self → Self → Bool → Type 0 };
 
-    ghost parks: { Self → Self → RecvNext T → Type 0 };
+    ghost parking_turn: { Self → Self → RecvNext T → Type 0 };
 
-    // With the ticket, and whether the deadline is reached.
-    ghost agains: { Self → ℕ → Bool → Self → RecvNext T → Type 0 };
+    // With the ticket, and whether it is the last turn.
+    ghost parked_turn: { Self → ℕ → Bool → Self → RecvNext T → Type 0 };
 
     ghost waits: { Self → Self → Bool → Type 0 };
 
     // Holds from `make_waiter` on until the call has ended.
     ghost is_ready: { Self → Type 0 };
 
-    /// The first turn, which doesn't park. `Done(Err(NoMemory))`: there is a message, but no memory
-    /// to hand it out.
+    /// The first turn. `Done(Err(NoMemory))`: there is a message, but no memory to hand it out.
     fn first(&mut self) -> RecvNext<T>
-        ensures does { firsts self.old self.new result }
+        ensures does { first_turn self.old self.new result }
         ensures answers { IsFirst result };
 
     /// Makes the waiter and its signal. `None`: out of memory.
@@ -44,18 +41,18 @@ pub trait RecvGate<T> {
         ensures does { makes self.old self.new (is_some result) }
         ensures ready { IfSome result (λ _. is_ready self.new) };
 
-    /// The turn that parks the call if it can't end at once.
+    /// The turn that may park.
     fn park(&mut self, signal: Self::Signal) -> RecvNext<T>
         requires ready { is_ready self.old }
-        ensures does { parks self.old self.new result }
+        ensures does { parking_turn self.old self.new result }
         ensures answers { IsParking result }
         ensures ready { (ticket : ℕ) → result ≡ RecvNext.Park ticket → is_ready self.new };
 
-    /// A turn of the parked call.
-    fn again(&mut self, call: RecvCall, late: bool) -> RecvNext<T>
+    /// A turn of the parked call, the `last` one at its deadline, or if a turn was out of memory.
+    fn again(&mut self, call: RecvCall, last: bool) -> RecvNext<T>
         requires ready { is_ready self.old }
-        ensures does { agains self.old call late self.new result }
-        ensures answers { IsAgain call late result }
+        ensures does { parked_turn self.old call last self.new result }
+        ensures answers { IsAgain call last result }
         ensures ready { (ticket : ℕ)
             → (result ≡ RecvNext.Park ticket) ⊎ (result ≡ RecvNext.Refused ticket)
             → is_ready self.new };
@@ -66,10 +63,8 @@ pub trait RecvGate<T> {
         ensures ready { is_ready self.old → is_ready self.new };
 }
 
-/// A receive that waits. It ends as its last turn says. `NoMemory`: there was no memory for the
-/// waiter, or a turn was out of memory. A parked call withdraws then, and ends with the message if
-/// one came.
-///
+/// A receive that waits. It ends as its last turn says. `NoMemory`: no memory for the waiter, or in
+/// a turn. A parked call withdraws then, and ends with the message if one came.
 /// ```
 /// // The gate is of an empty channel, and it has a deadline.
 /// let ended = recv_over(rt, &mut gate);
@@ -83,9 +78,10 @@ pub fn recv_over<T: Drop, G: RecvGate<T>, R: Wait>(
     rt: &R,
     gate: &mut G,
 ) -> Result<T, RecvTimeoutError>
-    ensures run { WholeReceive G.firsts G.makes G.parks G.agains G.waits gate.old gate.new result }
-    ensures no_memory { IsNeverRefused G.agains → result ≡ Err RecvTimeoutError.NoMemory
-        → EndsUnparked G.firsts G.makes G.parks gate.old gate.new }
+    ensures run { WholeReceive G.first_turn G.makes G.parking_turn G.parked_turn G.waits
+        gate.old gate.new result }
+    ensures no_memory { IsNeverRefused G.parked_turn → result ≡ Err RecvTimeoutError.NoMemory
+        → EndsUnparked G.first_turn G.makes G.parking_turn gate.old gate.new }
 {
     match gate.first() {
         RecvNext::Done(result) => result,
@@ -95,7 +91,6 @@ pub fn recv_over<T: Drop, G: RecvGate<T>, R: Wait>(
 }
 
 /// [`recv_over`] from a first turn on that found no message.
-///
 /// ```
 /// // The gate is of a channel that was empty when it was asked, and it has a deadline.
 /// let ended = waiting_receive(rt, &mut gate);
@@ -109,11 +104,12 @@ pub fn waiting_receive<T: Drop, G: RecvGate<T>, R: Wait>(
     rt: &R,
     gate: &mut G,
 ) -> Result<T, RecvTimeoutError>
-    ensures run { (start : G) → G.firsts start gate.old RecvNext.NeedSignal
-        → WholeReceive G.firsts G.makes G.parks G.agains G.waits start gate.new result }
-    ensures no_memory { (start : G) → G.firsts start gate.old RecvNext.NeedSignal
-        → IsNeverRefused G.agains → result ≡ Err RecvTimeoutError.NoMemory
-        → EndsUnparked G.firsts G.makes G.parks start gate.new }
+    ensures run { (start : G) → G.first_turn start gate.old RecvNext.NeedSignal
+        → WholeReceive G.first_turn G.makes G.parking_turn G.parked_turn G.waits
+        start gate.new result }
+    ensures no_memory { (start : G) → G.first_turn start gate.old RecvNext.NeedSignal
+        → IsNeverRefused G.parked_turn → result ≡ Err RecvTimeoutError.NoMemory
+        → EndsUnparked G.first_turn G.makes G.parking_turn start gate.new }
 {
     let Some((waiter, signal)) = gate.make_waiter() else {
         return Err(NoMemory);
@@ -133,8 +129,9 @@ fn parked_receive<T: Drop, G: RecvGate<T>, R: Wait>(
     mut call: RecvCall,
 ) -> Result<T, RecvTimeoutError>
     requires ready { G.is_ready gate.old }
-    ensures run { ParkedReceive G.agains G.waits gate.old call gate.new result }
-    ensures wants_no_memory { IsNeverRefused G.agains → result ≢ Err RecvTimeoutError.NoMemory }
+    ensures run { ParkedReceive G.parked_turn G.waits gate.old call gate.new result }
+    ensures wants_no_memory { IsNeverRefused G.parked_turn
+        → result ≢ Err RecvTimeoutError.NoMemory }
 {
     for _ in rt.forever() {
         call = match gate.again(call, false) {
@@ -160,7 +157,7 @@ fn withdraw_refused<T: Drop, G: RecvGate<T>>(
 ) -> Result<T, RecvTimeoutError>
     requires ready { G.is_ready gate.old }
     ensures withdraws { (answer : Result T RecvTimeoutError)
-        × G.agains gate.old call true gate.new (RecvNext.Done answer)
+        × G.parked_turn gate.old call true gate.new (RecvNext.Done answer)
         × (result ≡ got_or_no_memory answer) }
 {
     match gate.again(call, true) {

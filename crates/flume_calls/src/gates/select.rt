@@ -14,35 +14,31 @@ use std::sync::Wait;
 /// What a turn of an arm leads to.
 #[derive(Clone, Copy, Drop)]
 pub enum ArmNext {
-    /// The arm has completed.
     Completed,
-    /// The arm has to wait: it is parked, or may not park and wasn't started.
+    /// It is parked, or may not park and wasn't started.
     Waits,
-    /// Out of memory.
     NoMemory,
 }
 
-/// How a selection reaches its channels. The arms are numbered from 0. Each method has a relation
-/// from the gate before to the gate after.
+/// How a selection reaches its channels, by arms numbered from 0. Relations are as in `RecvGate`.
 pub trait SelectGate {
     /// What the selection waits on.
     type Waiter: Drop;
 
     /// What stays the same throughout a selection.
-    type Kept;
+    type Setup;
 
-    ghost kept: { Self → Self.Kept };
+    ghost setup: { Self → Self.Setup };
 
-    ghost count: { Self.Kept → ℕ };
+    ghost count: { Self.Setup → ℕ };
 
-    ghost start: { Self.Kept → ℕ };
+    ghost start: { Self.Setup → ℕ };
 
     ghost is_done: { Self → ℕ → Type 0 };
 
-    // With whether there is a waiter.
     ghost makes: { Self → Self → Bool → Type 0 };
 
-    // With whether the arm may park, and the arm.
+    // With whether the arm may park.
     ghost turns: { Bool → Self → ℕ → Self → ArmNext → Type 0 };
 
     ghost waits: { Self → Self → Bool → Type 0 };
@@ -51,53 +47,50 @@ pub trait SelectGate {
 
     /// How many arms there are.
     fn count(&self) -> usize
-        ensures count { result ≡ count (kept self.now) };
+        ensures count { result ≡ count (setup self.now) };
 
     /// The arm that each round begins with.
     fn start(&self) -> usize
-        ensures start { result ≡ start (kept self.now) }
-        ensures within { result < count (kept self.now) };
+        ensures start { result ≡ start (setup self.now) }
+        ensures within { result < count (setup self.now) };
 
     /// Makes the waiter. `None`: out of memory.
     fn make_waiter(&mut self) -> Option<Self::Waiter>
         ensures does { makes self.old self.new (is_some result) }
-        ensures kept { kept self.new ≡ kept self.old };
+        ensures setup { setup self.new ≡ setup self.old };
 
-    /// Starts the arm, or polls it if it was started before. Without a waiter it may not park, and
-    /// stays as it was if it would have to wait.
+    /// Starts or polls the arm. Without a waiter, one that would have to wait stays as it was.
     fn turn(&mut self, arm: usize, waiter: Option<&Self::Waiter>) -> ArmNext
-        requires within { arm < count (kept self.old) }
+        requires within { arm < count (setup self.old) }
         ensures does { turns (is_some waiter.entry) self.old arm self.new result }
         ensures completed { result ≡ ArmNext.Completed → is_done self.new arm }
-        ensures kept { kept self.new ≡ kept self.old };
+        ensures setup { setup self.new ≡ setup self.old };
 
     /// Waits for a wake or for the deadline. True, at once, if the deadline is reached.
     fn wait(&mut self, waiter: &Self::Waiter) -> bool
         ensures does { waits self.old self.new result }
-        ensures kept { kept self.new ≡ kept self.old };
+        ensures setup { setup self.new ≡ setup self.old };
 
     /// Withdraws an arm that was started.
     fn withdraw(&mut self, arm: usize)
-        requires within { arm < count (kept self.old) }
+        requires within { arm < count (setup self.old) }
         ensures does { withdraws self.old arm self.new }
         ensures others { (other : ℕ) → other ≢ arm → is_done self.old other
             → is_done self.new other }
-        ensures kept { kept self.new ≡ kept self.old };
+        ensures setup { setup self.new ≡ setup self.old };
 }
 
 #[derive(Clone, Copy, Drop)]
 enum RoundEnd {
     AllWait,
-    // `before`: how many arms had their turn before this one.
+    // After `before` turns of other arms.
     Completed { before: usize, arm: usize },
     NoMemory { before: usize },
 }
 
 /// The number of the first arm that completes. The arms have their turns in cyclic order from the
-/// start arm on: as the call begins, after each wait, and at the deadline. Every started arm is
-/// withdrawn, except the one that completed. `Timeout`: none completed by the deadline.
-/// `NoMemory`: out of memory for the waiter or in an arm.
-///
+/// start arm on: at first, after each wait, and at the deadline. Other started arms are withdrawn.
+/// `Timeout`: none completed by the deadline. `NoMemory`: none for the waiter, or in an arm.
 /// ```
 /// // The gate is of two arms, of which arm 0 starts.
 /// let ended = select_over(rt, &mut gate);
@@ -107,11 +100,11 @@ enum RoundEnd {
 /// ```
 pub fn select_over<R: Wait, G: SelectGate>(rt: &R, gate: &mut G) -> Result<usize, SelectError>
     ensures run { WholeSelection G.makes (G.turns true) G.waits G.withdraws
-        (G.count (G.kept gate.old)) (G.start (G.kept gate.old)) gate.old gate.new result }
-    ensures completed { IfOk result (HasCompleted G.is_done (G.count (G.kept gate.old)) gate.new) }
-    ensures in_time { ((old new : G) → G.kept old ≡ G.kept gate.old → ¬ (G.waits old new true))
+        (G.count (G.setup gate.old)) (G.start (G.setup gate.old)) gate.old gate.new result }
+    ensures completed { IfOk result (HasCompleted G.is_done (G.count (G.setup gate.old)) gate.new) }
+    ensures in_time { ((old new : G) → G.setup old ≡ G.setup gate.old → ¬ (G.waits old new true))
         → result ≢ Err SelectError.Timeout }
-    ensures kept { G.kept gate.new ≡ G.kept gate.old }
+    ensures setup { G.setup gate.new ≡ G.setup gate.old }
 {
     let Some(waiter) = gate.make_waiter() else {
         return Err(SelectError::NoMemory);
@@ -129,10 +122,8 @@ pub fn select_over<R: Wait, G: SelectGate>(rt: &R, gate: &mut G) -> Result<usize
     }
 }
 
-/// The number of the first arm that needn't wait, in cyclic order from the start arm on. None is
-/// parked. `None`: each would have to wait. `NoMemory`: out of memory in an arm, and those after it
-/// weren't tried.
-///
+/// The number of the first arm that needn't wait, in cyclic order from the start arm on; `None` if
+/// each would have to. `NoMemory`: out of memory in an arm, and those after it weren't tried.
 /// ```
 /// // The gate is of two arms, of which arm 0 starts.
 /// let ended = try_select_over(&mut gate);
@@ -141,11 +132,11 @@ pub fn select_over<R: Wait, G: SelectGate>(rt: &R, gate: &mut G) -> Result<usize
 /// // both would have to wait:                      Ok(None), and both were tried
 /// ```
 pub fn try_select_over<G: SelectGate>(gate: &mut G) -> Result<Option<usize>, NoMemory>
-    ensures run { TriedSelection (G.turns false) (G.count (G.kept gate.old))
-        (G.start (G.kept gate.old)) gate.old gate.new result }
+    ensures run { TriedSelection (G.turns false) (G.count (G.setup gate.old))
+        (G.start (G.setup gate.old)) gate.old gate.new result }
     ensures completed { IfOk result (λ arm. IfSome arm
-        (HasCompleted G.is_done (G.count (G.kept gate.old)) gate.new)) }
-    ensures kept { G.kept gate.new ≡ G.kept gate.old }
+        (HasCompleted G.is_done (G.count (G.setup gate.old)) gate.new)) }
+    ensures setup { G.setup gate.new ≡ G.setup gate.old }
 {
     let nothing: Option<G::Waiter> = None;
     match round(gate, nothing.as_ref()) {
@@ -160,12 +151,12 @@ fn started_selection<R: Wait, G: SelectGate>(
     gate: &mut G,
     waiter: &G::Waiter,
 ) -> Result<usize, SelectError>
-    ensures run { StartedSelection (G.turns true) G.waits G.withdraws (G.count (G.kept gate.old))
-        (G.start (G.kept gate.old)) gate.old gate.new result }
-    ensures completed { IfOk result (HasCompleted G.is_done (G.count (G.kept gate.old)) gate.new) }
-    ensures in_time { ((old new : G) → G.kept old ≡ G.kept gate.old → ¬ (G.waits old new true))
+    ensures run { StartedSelection (G.turns true) G.waits G.withdraws (G.count (G.setup gate.old))
+        (G.start (G.setup gate.old)) gate.old gate.new result }
+    ensures completed { IfOk result (HasCompleted G.is_done (G.count (G.setup gate.old)) gate.new) }
+    ensures in_time { ((old new : G) → G.setup old ≡ G.setup gate.old → ¬ (G.waits old new true))
         → result ≢ Err SelectError.Timeout }
-    ensures kept { G.kept gate.new ≡ G.kept gate.old }
+    ensures setup { G.setup gate.new ≡ G.setup gate.old }
 {
     for _ in rt.forever() {
         let polled = round(gate, Some(waiter));
@@ -182,13 +173,13 @@ fn started_selection<R: Wait, G: SelectGate>(
 }
 
 fn end_selection<G: SelectGate>(gate: &mut G, round: RoundEnd) -> Result<usize, SelectError>
-    requires completed { IfCompleted (HasCompleted G.is_done (G.count (G.kept gate.old)) gate.old)
+    requires completed { IfCompleted (HasCompleted G.is_done (G.count (G.setup gate.old)) gate.old)
         round }
-    ensures ends { EndsAfter G.withdraws (G.count (G.kept gate.old)) (G.start (G.kept gate.old))
-        (G.count (G.kept gate.old)) round gate.old gate.new result }
-    ensures completed { IfOk result (HasCompleted G.is_done (G.count (G.kept gate.old)) gate.new) }
-    ensures late { result ≡ Err SelectError.Timeout → round ≡ RoundEnd.AllWait }
-    ensures kept { G.kept gate.new ≡ G.kept gate.old }
+    ensures ends { EndsAfter G.withdraws (G.count (G.setup gate.old)) (G.start (G.setup gate.old))
+        (G.count (G.setup gate.old)) round gate.old gate.new result }
+    ensures completed { IfOk result (HasCompleted G.is_done (G.count (G.setup gate.old)) gate.new) }
+    ensures timeout { result ≡ Err SelectError.Timeout → round ≡ RoundEnd.AllWait }
+    ensures setup { G.setup gate.new ≡ G.setup gate.old }
 {
     let all = gate.count();
     match round {
@@ -207,13 +198,13 @@ fn end_selection<G: SelectGate>(gate: &mut G, round: RoundEnd) -> Result<usize, 
     }
 }
 
-// Every arm has its turn again, whichever was woken: another receiver may have taken the message.
+// Every arm has its turn, whichever was woken: another receiver may have taken the message.
 fn round<G: SelectGate>(gate: &mut G, waiter: Option<&G::Waiter>) -> RoundEnd
-    ensures round { IsRound (G.turns (is_some waiter.entry)) (G.count (G.kept gate.old))
-        (G.start (G.kept gate.old)) gate.old gate.new result }
-    ensures completed { IfCompleted (HasCompleted G.is_done (G.count (G.kept gate.old)) gate.new)
+    ensures round { IsRound (G.turns (is_some waiter.entry)) (G.count (G.setup gate.old))
+        (G.start (G.setup gate.old)) gate.old gate.new result }
+    ensures completed { IfCompleted (HasCompleted G.is_done (G.count (G.setup gate.old)) gate.new)
         result }
-    ensures kept { G.kept gate.new ≡ G.kept gate.old }
+    ensures setup { G.setup gate.new ≡ G.setup gate.old }
 {
     let count = gate.count();
     let mut arm = gate.start();
@@ -228,11 +219,11 @@ fn round<G: SelectGate>(gate: &mut G, waiter: Option<&G::Waiter>) -> RoundEnd
 }
 
 fn withdraw<G: SelectGate>(gate: &mut G, started: usize, spared: Option<usize>)
-    ensures withdrawn { (next : ℕ) × Withdraws G.withdraws (G.count (G.kept gate.old))
-        (G.start (G.kept gate.old)) spared gate.old started next gate.new }
+    ensures withdrawn { (next : ℕ) × Withdraws G.withdraws (G.count (G.setup gate.old))
+        (G.start (G.setup gate.old)) spared gate.old started next gate.new }
     ensures spared { (arm : ℕ) → spared ≡ Some arm → G.is_done gate.old arm
         → G.is_done gate.new arm }
-    ensures kept { G.kept gate.new ≡ G.kept gate.old }
+    ensures setup { G.setup gate.new ≡ G.setup gate.old }
 {
     let count = gate.count();
     let mut arm = gate.start();

@@ -9,8 +9,7 @@ use flume_core::error::SendTimeoutError;
 use flume_core::error::SendTimeoutError::NoMemory;
 use std::sync::Wait;
 
-/// How a blocking send of messages `T` reaches its channel. Each method has a relation from the
-/// gate before to the gate after.
+/// How a blocking send reaches its channel. Relations are from the gate before to that after.
 pub trait SendGate<T> {
     /// What the call waits on.
     type Waiter: Drop;
@@ -18,45 +17,42 @@ pub trait SendGate<T> {
     /// The signal that the call leaves as it parks.
     type Signal: Drop;
 
-    ghost firsts: { Self → T → Self → SendNext T → Type 0 };
+    ghost first_turn: { Self → T → Self → SendNext T → Type 0 };
 
-    // With whether there is a waiter.
     ghost makes: { Self → Self → Bool → Type 0 };
 
-    ghost parks: { Self → T → Self → SendNext T → Type 0 };
+    ghost parking_turn: { Self → T → Self → SendNext T → Type 0 };
 
-    // With the ticket, and whether the deadline is reached.
-    ghost agains: { Self → ℕ → Bool → Self → SendNext T → Type 0 };
+    // With the ticket, and whether it is the last turn.
+    ghost parked_turn: { Self → ℕ → Bool → Self → SendNext T → Type 0 };
 
     ghost waits: { Self → Self → Bool → Type 0 };
 
-    /// The first turn, which doesn't park.
+    /// The first turn.
     fn first(&mut self, message: T) -> SendNext<T>
-        ensures does { firsts self.old message self.new result }
+        ensures does { first_turn self.old message self.new result }
         ensures answers { IsFirst message result };
 
     /// Makes the waiter and its signal. `None`: out of memory.
     fn make_waiter(&mut self) -> Option<(Self::Waiter, Self::Signal)>
         ensures does { makes self.old self.new (is_some result) };
 
-    /// The turn that parks the call if it can't end at once.
+    /// The turn that may park.
     fn park(&mut self, message: T, signal: Self::Signal) -> SendNext<T>
-        ensures does { parks self.old message self.new result }
+        ensures does { parking_turn self.old message self.new result }
         ensures answers { IsParking message result };
 
-    /// A turn of the parked call.
-    fn again(&mut self, call: SendCall, late: bool) -> SendNext<T>
-        ensures does { agains self.old call late self.new result }
-        ensures answers { IsAgain call late result };
+    /// A turn of the parked call, the `last` one at its deadline.
+    fn again(&mut self, call: SendCall, last: bool) -> SendNext<T>
+        ensures does { parked_turn self.old call last self.new result }
+        ensures answers { IsAgain call last result };
 
     /// Waits for a wake or for the deadline. True, at once, if the deadline is reached.
     fn wait(&mut self, waiter: &Self::Waiter) -> bool
         ensures does { waits self.old self.new result };
 }
 
-/// A send that waits. It ends as its last turn says, or with `NoMemory` if there is no memory for
-/// the waiter. Each error hands the message back.
-///
+/// A send that waits. It ends as its last turn says, or with `NoMemory`: none for the waiter.
 /// ```
 /// // The gate is of a full channel, and it has a deadline.
 /// let ended = send_over(rt, &mut gate, 7);
@@ -70,7 +66,7 @@ pub fn send_over<T, G: SendGate<T>, R: Wait>(
     gate: &mut G,
     message: T,
 ) -> Result<(), SendTimeoutError<T>>
-    ensures run { WholeSend G.firsts G.makes G.parks G.agains G.waits
+    ensures run { WholeSend G.first_turn G.makes G.parking_turn G.parked_turn G.waits
         gate.old message gate.new result }
     ensures no_memory_holds { (back : T) → result ≡ Err (SendTimeoutError.NoMemory back)
         → back ≡ message }
@@ -83,7 +79,6 @@ pub fn send_over<T, G: SendGate<T>, R: Wait>(
 }
 
 /// [`send_over`] from a first turn on that found the channel full.
-///
 /// ```
 /// // The gate is of a channel that was full when the message was offered, and it has a deadline.
 /// let ended = waiting_send(rt, &mut gate, 7);
@@ -97,8 +92,9 @@ pub fn waiting_send<T, G: SendGate<T>, R: Wait>(
     gate: &mut G,
     message: T,
 ) -> Result<(), SendTimeoutError<T>>
-    ensures run { (start : G) → G.firsts start message gate.old (SendNext.NeedSignal message)
-        → WholeSend G.firsts G.makes G.parks G.agains G.waits start message gate.new result }
+    ensures run { (start : G) → G.first_turn start message gate.old (SendNext.NeedSignal message)
+        → WholeSend G.first_turn G.makes G.parking_turn G.parked_turn G.waits
+        start message gate.new result }
     ensures no_memory_holds { (back : T) → result ≡ Err (SendTimeoutError.NoMemory back)
         → back ≡ message }
 {
@@ -119,7 +115,7 @@ fn parked_send<T, G: SendGate<T>, R: Wait>(
     waiter: &G::Waiter,
     mut call: SendCall,
 ) -> Result<(), SendTimeoutError<T>>
-    ensures run { ParkedSend G.agains G.waits gate.old call gate.new result }
+    ensures run { ParkedSend G.parked_turn G.waits gate.old call gate.new result }
     ensures wants_no_memory { (back : T) → result ≢ Err (SendTimeoutError.NoMemory back) }
 {
     for _ in rt.forever() {

@@ -12,8 +12,7 @@ use flume_core::error::{RecvError, RecvTimeoutError};
 use flume_model::step::Kind;
 use std::alloc::Allocator;
 
-/// A receive that is polled, as a future or a stream is. Polled again after it ended, it asks for
-/// the next message.
+/// A receive that is polled. Polled again after it ended, it asks for the next message.
 #[derive(Drop)]
 pub struct PolledReceive {
     kind: Kind,
@@ -22,7 +21,6 @@ pub struct PolledReceive {
 
 impl PolledReceive {
     /// A receive that parks as this kind of receiver. Doesn't allocate.
-    ///
     /// ```
     /// let mut chan: Chan<u64, u32> = Chan::new(alloc, None);
     /// let mut receive = PolledReceive::new(Kind::Plain);
@@ -36,9 +34,7 @@ impl PolledReceive {
         PolledReceive { kind, call: None }
     }
 
-    /// Ends the receive: the turn by which it leaves, which its owner has to make. `None`: it isn't
-    /// parked.
-    ///
+    /// The turn by which it leaves, which its owner has to make. `None`: it isn't parked.
     /// ```
     /// let mut chan: Chan<u64, u32> = Chan::new(alloc, None);
     /// let mut receive = PolledReceive::new(Kind::Plain);
@@ -49,13 +45,13 @@ impl PolledReceive {
     /// ```
     pub fn end<S>(&mut self) -> Option<AgainReceive<S>>
         ensures leaves { result ≡ option_map
-            (λ call. record { call = call; late = true; signal = None }) self.old.call }
+            (λ call. record { call = call; last = true; signal = None }) self.old.call }
         ensures ended { self.new ≡ record self.old { call = None } }
     {
         let call = self.call.take()?;
         Some(AgainReceive {
             call,
-            late: true,
+            last: true,
             signal: None,
         })
     }

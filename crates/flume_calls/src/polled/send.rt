@@ -10,10 +10,9 @@ use flume_core::error::{SendError, SendTimeoutError};
 use std::alloc::Allocator;
 use std::mem;
 
-/// A send that is polled, as a future or a sink is.
+/// A send that is polled.
 #[derive(Drop)]
 pub enum PolledSend<T> {
-    /// Its message isn't offered yet.
     Unsent(T),
     /// It waits, or hasn't asked since its message was taken in.
     Parked(SendCall),
@@ -22,9 +21,8 @@ pub enum PolledSend<T> {
 }
 
 impl<T: Drop> PolledSend<T> {
-    /// Ends the send: the turn that takes a blocked message back, which its owner has to make.
-    /// `None`: it isn't parked. An unsent message is dropped.
-    ///
+    /// The turn that takes a blocked message back, which its owner has to make. `None`: it isn't
+    /// parked. An unsent message is dropped.
     /// ```
     /// let mut chan: Chan<u64, u32> = Chan::new(alloc, Some(0));
     /// let mut send = PolledSend::Unsent(7);
@@ -35,14 +33,14 @@ impl<T: Drop> PolledSend<T> {
     /// ```
     pub fn end<S>(&mut self) -> Option<AgainSend<S>>
         ensures parked { (call : ℕ) → self.old ≡ PolledSend.Parked call
-            → result ≡ Some (record { call = call; late = true; signal = None }) }
+            → result ≡ Some (record { call = call; last = true; signal = None }) }
         ensures not_parked { ((call : ℕ) → self.old ≢ PolledSend.Parked call) → result ≡ None }
         ensures ended { self.new ≡ PolledSend.Finished }
     {
         match mem::replace(self, PolledSend::Finished) {
             PolledSend::Parked(call) => Some(AgainSend {
                 call,
-                late: true,
+                last: true,
                 signal: None,
             }),
             PolledSend::Unsent(_message) => None,
@@ -110,8 +108,8 @@ impl<T: Drop> PolledSend<T> {
         ensures step { AtMostOneStep A chan.old chan.new }
         ensures pending { result ≡ None → IsSome signal }
     {
-        let late = signal.is_none() && call.would_wait(chan);
-        self.finish_poll(call.again(chan, late, signal))
+        let last = signal.is_none() && call.would_wait(chan);
+        self.finish_poll(call.again(chan, last, signal))
     }
 }
 

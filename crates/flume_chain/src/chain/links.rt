@@ -4,7 +4,7 @@ ghost use Rattle.std.specs.Prelude.{IfOk, IfErr, OnErr, IfSome, IfNone, OnSome};
 ghost use Rattle.std.specs.Borrow.{Lends, sem};
 ghost use Rattle.std.specs.Vec.{vec_len, vec_capacity};
 ghost use Rattle.flume_chain.specs.Links.{end, with, next_at, previous_at, element_at};
-ghost use Rattle.flume_chain.specs.Links.{HasNode, Linked, Same, Put, Full, with_value};
+ghost use Rattle.flume_chain.specs.Links.{HasNode, Linked, Same, Put, Full, links_with_value};
 ghost use Rattle.flume_chain.specs.Links.{with_new_label};
 ghost use Rattle.std.specs.Option.{option_map};
 
@@ -16,7 +16,6 @@ use std::mem::{forget, replace};
 /// The place that no element has: it is before the first and after the last.
 pub(super) const END: u32 = u32::MAX;
 
-/// Nodes, with the places of the first, the last and a free one.
 #[derive(Drop)]
 pub(super) struct Links<L, E, A: Allocator> {
     nodes: Vec<Node<L, E>, A>,
@@ -28,9 +27,8 @@ pub(super) struct Links<L, E, A: Allocator> {
 impl<L: Drop, E: Drop, A: Allocator> Links<L, E, A> {
     ghost use Rattle.flume_chain.specs.contracts.chain.links.Links.{the_row};
 
-    /// No nodes. Doesn't allocate.
     #[inline(always)]
-    pub fn new(alloc: A) -> Self
+    pub(super) fn new(alloc: A) -> Self
         ensures size { vec_len result.nodes ≡ 0 }
         ensures capacity { vec_capacity result.nodes ≡ 0 }
         ensures first { result.first ≡ end }
@@ -45,22 +43,19 @@ impl<L: Drop, E: Drop, A: Allocator> Links<L, E, A> {
         }
     }
 
-    /// How many nodes fit before one needs an allocation.
     #[inline(always)]
-    pub fn capacity(&self) -> usize
+    pub(super) fn capacity(&self) -> usize
         ensures capacity { result ≡ vec_capacity self.now.nodes }
     {
         self.nodes.capacity()
     }
 
-    /// The allocator that memory is taken from.
     #[inline(always)]
-    pub fn allocator(&self) -> &A {
+    pub(super) fn allocator(&self) -> &A {
         self.nodes.allocator()
     }
 
-    /// Drops all nodes; their memory is kept.
-    pub fn clear(&mut self)
+    pub(super) fn clear(&mut self)
         ensures size { vec_len self.new.nodes ≡ 0 }
         ensures capacity { vec_capacity self.new.nodes ≡ vec_capacity self.old.nodes }
         ensures first { self.new.first ≡ end }
@@ -73,9 +68,8 @@ impl<L: Drop, E: Drop, A: Allocator> Links<L, E, A> {
         self.free = END;
     }
 
-    /// The place after a place; after `END` the first.
     #[inline(always)]
-    pub fn next(&self, place: u32) -> u32
+    pub(super) fn next(&self, place: u32) -> u32
         ensures next { result ≡ next_at self.now place }
     {
         if place == END {
@@ -87,9 +81,8 @@ impl<L: Drop, E: Drop, A: Allocator> Links<L, E, A> {
         }
     }
 
-    /// The place before a place; before `END` the last.
     #[inline(always)]
-    pub fn previous(&self, place: u32) -> u32
+    pub(super) fn previous(&self, place: u32) -> u32
         ensures previous { result ≡ previous_at self.now place }
     {
         if place == END {
@@ -101,38 +94,34 @@ impl<L: Drop, E: Drop, A: Allocator> Links<L, E, A> {
         }
     }
 
-    /// The value at a place.
     #[inline(always)]
-    pub fn get(&self, place: u32) -> Option<&E>
+    pub(super) fn get(&self, place: u32) -> Option<&E>
         ensures value { option_copied result
             ≡ option_map (λ e. e.value) (element_at self.now place) }
     {
         self.nodes.get(place as usize)?.value()
     }
 
-    /// The label at a place.
     #[inline(always)]
-    pub fn label(&self, place: u32) -> Option<&L>
+    pub(super) fn label(&self, place: u32) -> Option<&L>
         ensures label { option_copied result
             ≡ option_map (λ e. e.label) (element_at self.now place) }
     {
         self.nodes.get(place as usize)?.label()
     }
 
-    /// The value at an occupied place, for writing.
     #[inline(always)]
-    pub fn value_mut(&mut self, place: u32) -> &mut E
+    pub(super) fn value_mut(&mut self, place: u32) -> &mut E
         requires occupied { IsSome (element_at self.old place) }
         ensures* writes_back { sem 𝓛 (Lends (the_row L.row E.row A.row A.Allocator) E.row self.entry
-            result (with_value self.old place)) }
+            result (links_with_value self.old place)) }
         ensures value { option_map (λ e. e.value) (element_at self.old place) ≡ Some result.now }
     {
         self.nodes[place as usize].value_mut()
     }
 
-    /// Writes the label at a place. Nothing changes if there is no element there.
     #[inline(always)]
-    pub fn set_label(&mut self, place: u32, label: L)
+    pub(super) fn set_label(&mut self, place: u32, label: L)
         ensures written { Linked self.old self.new (next_at self.old) (previous_at self.old)
             (with (element_at self.old) place
             (option_map (with_new_label label) (element_at self.old place))) self.old.free }
@@ -142,9 +131,8 @@ impl<L: Drop, E: Drop, A: Allocator> Links<L, E, A> {
         }
     }
 
-    /// Takes the element at a place out of its node.
     #[inline(always)]
-    pub fn take(&mut self, place: u32) -> Option<LabelledValue<L, E>>
+    pub(super) fn take(&mut self, place: u32) -> Option<LabelledValue<L, E>>
         ensures element { result ≡ element_at self.old place }
         ensures taken { Linked self.old self.new (next_at self.old) (previous_at self.old)
             (with (element_at self.old) place None) self.old.free }
@@ -153,9 +141,8 @@ impl<L: Drop, E: Drop, A: Allocator> Links<L, E, A> {
         node.take()
     }
 
-    /// Drops the element at a place, if there is one.
     #[inline(always)]
-    pub fn discard(&mut self, place: u32)
+    pub(super) fn discard(&mut self, place: u32)
         ensures discarded { Linked self.old self.new (next_at self.old) (previous_at self.old)
             (with (element_at self.old) place None) self.old.free }
     {
@@ -227,10 +214,8 @@ impl<L: Drop, E: Drop, A: Allocator> Links<L, E, A> {
         Ok(place as u32)
     }
 
-    /// Puts an element before a place, into a free node if there is one, and returns its place. If
-    /// memory runs out, or only `END` is left, the element comes back, and nothing changes.
     #[inline(always)]
-    pub fn link_before(
+    pub(super) fn link_before(
         &mut self,
         next: u32,
         element: LabelledValue<L, E>,
@@ -254,9 +239,8 @@ impl<L: Drop, E: Drop, A: Allocator> Links<L, E, A> {
         Ok(place)
     }
 
-    /// Links the place before a place with the one after it.
     #[inline(always)]
-    pub fn unlink(&mut self, place: u32)
+    pub(super) fn unlink(&mut self, place: u32)
         requires fits { vec_len self.old.nodes ≤ end }
         requires next { HasNode self.old (next_at self.old place) }
         requires previous { HasNode self.old (previous_at self.old place) }
@@ -271,9 +255,8 @@ impl<L: Drop, E: Drop, A: Allocator> Links<L, E, A> {
         self.set_previous(next, previous);
     }
 
-    /// Links the place before a place with the one after it, and frees the node between them.
     #[inline(always)]
-    pub fn unlink_and_free(&mut self, place: u32)
+    pub(super) fn unlink_and_free(&mut self, place: u32)
         requires place { place < vec_len self.old.nodes }
         requires fits { vec_len self.old.nodes ≤ end }
         requires next { HasNode self.old (next_at self.old place) }
@@ -289,9 +272,8 @@ impl<L: Drop, E: Drop, A: Allocator> Links<L, E, A> {
         self.free = place;
     }
 
-    /// Links a place behind all others.
     #[inline(always)]
-    pub fn link_last(&mut self, place: u32)
+    pub(super) fn link_last(&mut self, place: u32)
         requires place { place < vec_len self.old.nodes }
         requires fits { vec_len self.old.nodes ≤ end }
         requires last { HasNode self.old self.old.last }
@@ -307,9 +289,8 @@ impl<L: Drop, E: Drop, A: Allocator> Links<L, E, A> {
         self.last = place;
     }
 
-    /// Takes out the first element, and frees its node. `None` if there is none.
     #[inline(always)]
-    pub fn take_first(&mut self) -> Option<LabelledValue<L, E>>
+    pub(super) fn take_first(&mut self) -> Option<LabelledValue<L, E>>
         requires first { HasNode self.old self.old.first }
         requires fits { vec_len self.old.nodes ≤ end }
         requires next { self.old.first ≢ end → HasNode self.old (next_at self.old self.old.first) }

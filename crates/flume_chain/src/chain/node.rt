@@ -9,8 +9,7 @@ use crate::labelled::LabelledValue;
 use std::mem;
 use std::mem::size_of;
 
-/// A node: free, or of an element. `next` of a free one is the next free place, and its `previous`
-/// says nothing. With a label of 4 bytes and a value of 8 a node takes 24.
+/// `next` of a free one is the next free place, and its `previous` says nothing.
 #[derive(Drop)]
 pub(super) enum Node<L, E> {
     Free {
@@ -30,9 +29,8 @@ const _: () = prove!(size_of::<Node<u32, u64>>() == 24);
 impl<L, E> Node<L, E> {
     ghost use Rattle.flume_chain.specs.contracts.chain.node.Node.{the_row};
 
-    /// The place after it.
     #[inline(always)]
-    pub fn next(&self) -> u32
+    pub(super) fn next(&self) -> u32
         ensures next { result ≡ next_of self.now }
     {
         match self {
@@ -41,9 +39,8 @@ impl<L, E> Node<L, E> {
         }
     }
 
-    /// The place before it.
     #[inline(always)]
-    pub fn previous(&self) -> u32
+    pub(super) fn previous(&self) -> u32
         ensures previous { result ≡ previous_of self.now }
     {
         match self {
@@ -52,9 +49,8 @@ impl<L, E> Node<L, E> {
         }
     }
 
-    /// Writes the place after it.
     #[inline(always)]
-    pub fn set_next(&mut self, place: u32)
+    pub(super) fn set_next(&mut self, place: u32)
         ensures next { next_of self.new ≡ place }
         ensures previous { previous_of self.new ≡ previous_of self.old }
         ensures element { element_of self.new ≡ element_of self.old }
@@ -65,9 +61,8 @@ impl<L, E> Node<L, E> {
         }
     }
 
-    /// Writes the place before it.
     #[inline(always)]
-    pub fn set_previous(&mut self, place: u32)
+    pub(super) fn set_previous(&mut self, place: u32)
         ensures next { next_of self.new ≡ next_of self.old }
         ensures previous { previous_of self.new ≡ place }
         ensures element { element_of self.new ≡ element_of self.old }
@@ -78,9 +73,8 @@ impl<L, E> Node<L, E> {
         }
     }
 
-    /// The value, if it has one.
     #[inline(always)]
-    pub fn value(&self) -> Option<&E>
+    pub(super) fn value(&self) -> Option<&E>
         ensures value { option_copied result ≡ option_map (λ e. e.value) (element_of self.now) }
     {
         match self {
@@ -89,9 +83,8 @@ impl<L, E> Node<L, E> {
         }
     }
 
-    /// The label, if it has one.
     #[inline(always)]
-    pub fn label(&self) -> Option<&L>
+    pub(super) fn label(&self) -> Option<&L>
         ensures label { option_copied result ≡ option_map (λ e. e.label) (element_of self.now) }
     {
         match self {
@@ -100,9 +93,8 @@ impl<L, E> Node<L, E> {
         }
     }
 
-    /// The value of a node that has one, for writing.
     #[inline(always)]
-    pub fn value_mut(&mut self) -> &mut E
+    pub(super) fn value_mut(&mut self) -> &mut E
         requires occupied { IsSome (element_of self.old) }
         ensures* writes_back { sem 𝓛 (Lends (the_row L.row E.row) E.row self.entry result
             (with_value_of self.old)) }
@@ -116,9 +108,8 @@ impl<L, E> Node<L, E> {
 }
 
 impl<L: Drop, E: Drop> Node<L, E> {
-    /// Writes the label, if it has one.
     #[inline(always)]
-    pub fn set_label(&mut self, new: L)
+    pub(super) fn set_label(&mut self, new: L)
         ensures next { next_of self.new ≡ next_of self.old }
         ensures previous { previous_of self.new ≡ previous_of self.old }
         ensures element { element_of self.new
@@ -129,9 +120,8 @@ impl<L: Drop, E: Drop> Node<L, E> {
         }
     }
 
-    /// Takes the element out, if it has one.
     #[inline(always)]
-    pub fn take(&mut self) -> Option<LabelledValue<L, E>>
+    pub(super) fn take(&mut self) -> Option<LabelledValue<L, E>>
         ensures element { result ≡ element_of self.old }
         ensures taken { element_of self.new ≡ None }
         ensures next { next_of self.new ≡ next_of self.old }
@@ -147,9 +137,8 @@ impl<L: Drop, E: Drop> Node<L, E> {
         }
     }
 
-    /// Drops the element, if it has one.
     #[inline(always)]
-    pub fn discard(&mut self)
+    pub(super) fn discard(&mut self)
         ensures discarded { element_of self.new ≡ None }
         ensures next { next_of self.new ≡ next_of self.old }
         ensures previous { previous_of self.new ≡ previous_of self.old }
@@ -160,9 +149,8 @@ impl<L: Drop, E: Drop> Node<L, E> {
         };
     }
 
-    /// Takes the element out of a node that has one.
     #[inline(always)]
-    pub fn take_element(&mut self) -> LabelledValue<L, E>
+    pub(super) fn take_element(&mut self) -> LabelledValue<L, E>
         requires occupied { IsSome (element_of self.old) }
         ensures element { element_of self.old ≡ Some result }
         ensures taken { element_of self.new ≡ None }
@@ -176,7 +164,6 @@ impl<L: Drop, E: Drop> Node<L, E> {
     }
 }
 
-/// The node of an element, with the places before and after it.
 #[inline(always)]
 pub(super) fn occupied<L, E>(element: LabelledValue<L, E>, previous: u32, next: u32) -> Node<L, E>
     ensures next { next_of result ≡ next }

@@ -13,10 +13,8 @@ use flume_model::step::{Reply, Step};
 use std::alloc::Allocator;
 
 impl<T: Drop, S: Drop, A: Allocator + Copy> Chan<T, S, A> {
-    /// Sets the capacity of a bounded channel. `Done`: blocked messages move in while the queue is
-    /// below it, and their tickets are accepted. `Unbounded`: the channel has no capacity to set.
-    /// `Ended`: it has one, and is closed. The last two change nothing. Doesn't allocate.
-    ///
+    /// Sets the capacity: blocked messages move in while the queue is below it. `Unbounded`: there
+    /// is none to set. `Ended`: there is one, and the channel is closed. Doesn't allocate.
     /// ```
     /// let mut chan: Chan<u64, u32> = Chan::new(alloc, Some(0));
     /// chan.send(7, 10);                  // Pending(1), with the signal 10
@@ -50,7 +48,7 @@ impl<T: Drop, S: Drop, A: Allocator + Copy> Chan<T, S, A> {
     }
 
     fn keep_capacity(&mut self, capacity: usize)
-        ensures kept { self.new ≡ record self.old {
+        ensures capacity { self.new ≡ record self.old {
           capacity = Some capacity;
           greatest = greater self.old.greatest (Some capacity);
         } }

@@ -12,8 +12,7 @@ use flume_model::step::{Reply, Step};
 use std::alloc::Allocator;
 
 impl<T: Drop, S: Drop, A: Allocator + Copy> Chan<T, S, A> {
-    /// One more sender. `NoEnd`: none is left. `CountFull`: no more can be counted. Both
-    /// change nothing.
+    /// One more sender. `NoEnd`: none is left. `CountFull`: no more can be counted.
     pub fn clone_sender(&mut self) -> Reply<T, A>
         ensures step { Extends self.old Step.CloneSender result self.new }
         ensures becomes_due { IsReachable A self.old
@@ -63,9 +62,8 @@ impl<T: Drop, S: Drop, A: Allocator + Copy> Chan<T, S, A> {
         }
     }
 
-    /// One sender leaves. `NoEnd`: there is none left, and nothing changes. If this closes the
-    /// channel, every waiting receiver is woken, and every blocked send is due. Once both sides
-    /// have disconnected, no message and no ticket is left.
+    /// One sender leaves. If this closes the channel, every waiting receiver is woken, and every
+    /// blocked send is due. Once all ends are dropped, no message and no ticket is left.
     pub fn drop_sender(&mut self) -> Reply<T, A>
         ensures step { Extends self.old Step.DropSender result self.new }
         ensures becomes_due { IsReachable A self.old

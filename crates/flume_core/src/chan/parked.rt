@@ -1,18 +1,15 @@
 //! The steps of parked receivers, and wake rounds.
-ghost use Rattle.std.specs.Prelude.{◌≡◌, ◌≤◌, ◌↔◌, ◌⊎◌, ℕ, Bool, true, List, [], ◌∷◌, Option, Some};
-ghost use Rattle.std.specs.Prelude.{None};
+ghost use Rattle.std.specs.Prelude.{◌≡◌, ◌≤◌, ◌↔◌, ◌⊎◌, ℕ, Bool, true, List, [], ◌∷◌};
+ghost use Rattle.std.specs.Prelude.{Option, Some, None};
 ghost use Rattle.flume_model.specs.Limits.{IsOpen, IsClosed, is_closed};
 ghost use Rattle.flume_model.specs.Entries.{entry_of, again, passes_on, leave_fills};
-ghost use Rattle.flume_model.specs.Entries.{round_for_fills};
-ghost use Rattle.flume_state.specs.Receivers.{receiver_status, looks, is_unfilled_block, noticed_receiver};
-ghost use Rattle.flume_state.specs.Receivers.{waits_on};
-ghost use Rattle.flume_state.specs.Receivers.{only_leaves};
-ghost use Rattle.flume_model.specs.Entries.{held_by};
+ghost use Rattle.flume_model.specs.Entries.{round_for_fills, held_by};
+ghost use Rattle.flume_state.specs.Receivers.{receiver_status, looks, is_unfilled_block};
+ghost use Rattle.flume_state.specs.Receivers.{noticed_receiver, waits_on, only_leaves};
 ghost use Rattle.flume_state.specs.declared.entries.ReceiverStatus.TheVariants.{BlockWaiting};
 ghost use Rattle.flume_state.specs.declared.entries.ReceiverStatus.TheVariants.{Filled};
 ghost use Rattle.flume_state.specs.Effects.{with_front, after_take, without_receiver};
-ghost use Rattle.flume_state.specs.Effects.{after_withdrawal, after_wake_round};
-ghost use Rattle.flume_state.specs.Effects.{with_peak, Departs};
+ghost use Rattle.flume_state.specs.Effects.{after_withdrawal, after_wake_round, with_peak, Departs};
 ghost use Rattle.flume_state.specs.State.{State};
 ghost use Rattle.flume_core.specs.Represents.{Extends, IsReachable, ChangesNothing};
 ghost use Rattle.flume_state.specs.Due.{BecomesDue};
@@ -25,11 +22,8 @@ use std::alloc::Allocator;
 
 impl<T: Drop, S: Drop, A: Allocator + Copy> Chan<T, S, A> {
     /// Asks again, as the parked receiver with this ticket. `Got`: the message that filled it, or,
-    /// if it doesn't block or was woken, the front of the line. `Ended`: there is none, and the
-    /// channel is closed. Both spend the ticket. `Waiting`: it waits on, behind all others if it
-    /// was woken; a signal given here replaces the one that it left. `NoTicket`: nobody is parked
-    /// under this ticket, and nothing changes. Doesn't allocate.
-    ///
+    /// if it doesn't block or was woken, the front of the line. `Got` and `Ended` spend the ticket.
+    /// `Waiting`: behind all others if it was woken; `signal` replaces its own. Doesn't allocate.
     /// ```
     /// let mut chan: Chan<u64, u32> = Chan::new(alloc, None);
     /// chan.recv(Kind::Plain, 10);        // Parked(1)
@@ -86,10 +80,8 @@ impl<T: Drop, S: Drop, A: Allocator + Copy> Chan<T, S, A> {
         Reply::Ended
     }
 
-    /// Leaves, as the parked receiver with this ticket, which is spent. `Got`: the message that
-    /// filled it, or, if it blocks, the front of the line. `Gone`: no message; if woken, it passes
-    /// its wake on. `NoTicket`: nobody is parked under it, and nothing changes. Doesn't allocate.
-    ///
+    /// Leaves, as the parked receiver with this ticket. `Got`: the message that filled it, or the
+    /// front of the line if it blocks. `Gone`: if woken, it passes its wake on. Doesn't allocate.
     /// ```
     /// let mut chan: Chan<u64, u32> = Chan::new(alloc, None);
     /// chan.recv(Kind::Plain, 10);        // Parked(1)

@@ -86,9 +86,7 @@ impl<T: Drop, S: Drop, A: Allocator + Copy> Chan<T, S, A> {
         Reply::Truth(!self.is_open())
     }
 
-    /// How many more messages can be stored before a send allocates; 0 at first. The room and the
-    /// messages together never shrink by a step. No step.
-    ///
+    /// How many more messages can be stored before a send allocates; 0 at first. No step.
     /// ```
     /// let mut chan: Chan<u64, ()> = Chan::new(alloc, None);
     /// chan.room();                       // 0
@@ -102,9 +100,7 @@ impl<T: Drop, S: Drop, A: Allocator + Copy> Chan<T, S, A> {
         self.line.room()
     }
 
-    /// How many sends are blocked, in a closed channel too. A send whose message moved into the
-    /// queue isn't counted, though it hasn't asked since. No step.
-    ///
+    /// How many sends are blocked, in a closed channel too. No step.
     /// ```
     /// let mut chan: Chan<u64, ()> = Chan::new(alloc, Some(0));
     /// chan.send(7, ());                  // Pending(1)
@@ -119,7 +115,6 @@ impl<T: Drop, S: Drop, A: Allocator + Copy> Chan<T, S, A> {
     }
 
     /// How many parked receivers wait. One that was woken or filled isn't counted. No step.
-    ///
     /// ```
     /// let mut chan: Chan<u64, ()> = Chan::new(alloc, None);
     /// chan.recv(Kind::Block, ());        // Parked(1)
@@ -134,7 +129,6 @@ impl<T: Drop, S: Drop, A: Allocator + Copy> Chan<T, S, A> {
     }
 
     /// How many messages, queued or blocked, could be received now, and at most `most`. No step.
-    ///
     /// ```
     /// let mut chan: Chan<u64, u32> = Chan::new(alloc, Some(1));
     /// chan.try_send(1);
@@ -150,9 +144,8 @@ impl<T: Drop, S: Drop, A: Allocator + Copy> Chan<T, S, A> {
         queued + self.line.blocked_len().min(most - queued)
     }
 
-    /// A ticket that is due, and isn't afterwards. `None` if no ticket is due. A ticket becomes due
-    /// if its send is accepted, or is blocked as the channel is closed, or its receiver is woken or
-    /// filled. It costs the same whatever is parked. No step.
+    /// A ticket that is due, and isn't afterwards: its send was accepted, or is blocked in a closed
+    /// channel, or its receiver was woken or filled. Costs the same whatever is parked. No step.
     #[inline(always)]
     pub fn next_due(&mut self) -> Option<u64>
         ensures named { IfSome result (λ ticket. NamesDueTicket self.old self.new ticket) }

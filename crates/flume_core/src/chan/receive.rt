@@ -1,11 +1,9 @@
 //! The steps of receivers.
 ghost use Rattle.std.specs.Prelude.{◌≡◌, ◌≢◌, ◌<◌, ◌≤◌, ◌↔◌, ℕ, List, [], ◌∷◌};
-ghost use Rattle.std.specs.Prelude.{IfNone, IfSome, Option};
-ghost use Rattle.std.specs.Prelude.{None, Vec};
+ghost use Rattle.std.specs.Prelude.{IfNone, IfSome, Option, None, Vec};
 ghost use Rattle.flume_model.specs.Limits.{IsOpen, IsClosed, most};
 ghost use Rattle.flume_state.specs.Effects.{after_admission, with_front, after_refill, after_take};
-ghost use Rattle.flume_state.specs.Effects.{after_admissions};
-ghost use Rattle.flume_state.specs.Effects.{with_peak, Begins};
+ghost use Rattle.flume_state.specs.Effects.{after_admissions, with_peak, Begins};
 ghost use Rattle.flume_state.specs.State.{State};
 ghost use Rattle.flume_core.specs.Represents.{Extends, IsReachable, IsRefusal};
 ghost use Rattle.flume_state.specs.Due.{BecomesDue};
@@ -16,10 +14,8 @@ use flume_model::step::{Kind, Reply, Step};
 use std::alloc::Allocator;
 
 impl<T: Drop, S: Drop, A: Allocator + Copy> Chan<T, S, A> {
-    /// Asks for the message at the front without waiting. `Got`: the message; while the queue is
-    /// below its capacity the first blocked message moves in, and its ticket is accepted. `Empty`:
-    /// there is none. `Ended`: there is none, and the channel is closed. Doesn't allocate.
-    ///
+    /// Asks for the message at the front. `Got`: then the first blocked message moves in if the
+    /// queue is below its capacity. Doesn't allocate.
     /// ```
     /// let mut chan: Chan<u64, ()> = Chan::new(alloc, None);
     /// chan.try_send(42);
@@ -29,7 +25,8 @@ impl<T: Drop, S: Drop, A: Allocator + Copy> Chan<T, S, A> {
     #[inline(always)]
     pub fn try_recv(&mut self) -> Reply<T, A>
         ensures step { Extends self.old Step.TryRecv result self.new }
-        ensures becomes_due { IsReachable A self.old → BecomesDue self.old Step.TryRecv result self.new }
+        ensures becomes_due { IsReachable A self.old
+            → BecomesDue self.old Step.TryRecv result self.new }
         ensures possible_reply { PossibleReply Step.TryRecv result }
         ensures space { self.old.space ≤ self.new.space }
         ensures got { (message : T) (rest : List T) → (with_front self.old).queue ≡ message ∷ rest
@@ -48,10 +45,8 @@ impl<T: Drop, S: Drop, A: Allocator + Copy> Chan<T, S, A> {
         }
     }
 
-    /// Asks as `try_recv` does, and parks instead of `Empty`. `Parked`: the receiver waits behind
-    /// all others under this ticket. `Spent`: every ticket was issued. `NoMemory`: there was no
-    /// room to park. The last two change nothing.
-    ///
+    /// Asks as `try_recv` does, and parks instead of `Empty`, behind all others. `Spent`: every
+    /// ticket was issued. `NoMemory`: there was no room to park.
     /// ```
     /// let mut chan: Chan<u64, u32> = Chan::new(alloc, None);
     /// chan.recv(Kind::Block, 10);        // Parked(1), with the signal 10
@@ -94,10 +89,8 @@ impl<T: Drop, S: Drop, A: Allocator + Copy> Chan<T, S, A> {
         Reply::Parked(ticket)
     }
 
-    /// Takes all queued messages, and lets blocked ones in while the queue has room: their tickets
-    /// are accepted. `Drained`: the messages, in order. `NoMemory`: some are queued, there was no
-    /// room for their list, and nothing changes.
-    ///
+    /// Takes all queued messages, in order, and lets blocked ones in while the queue has room.
+    /// `NoMemory`: some are queued, and there was no room for their list.
     /// ```
     /// let mut chan: Chan<u64, ()> = Chan::new(alloc, None);
     /// chan.try_send(1);
@@ -106,7 +99,8 @@ impl<T: Drop, S: Drop, A: Allocator + Copy> Chan<T, S, A> {
     /// ```
     pub fn drain(&mut self) -> Reply<T, A>
         ensures step { Extends self.old Step.Drain result self.new }
-        ensures becomes_due { IsReachable A self.old → BecomesDue self.old Step.Drain result self.new }
+        ensures becomes_due { IsReachable A self.old
+            → BecomesDue self.old Step.Drain result self.new }
         ensures possible_reply { PossibleReply Step.Drain result }
         ensures space { self.old.space ≤ self.new.space }
         ensures drained { (list : Vec T A) → result ≡ Reply.Drained list

@@ -19,12 +19,9 @@ use flume_model::step::{Reply, Step};
 use std::alloc::Allocator;
 
 impl<T: Drop, S: Drop, A: Allocator + Copy> Chan<T, S, A> {
-    /// Offers a message without waiting. `Sent`: it is at the queue's end, at any capacity if a
-    /// receiver waits, and a wake round follows: `filled` is the receiver that it handed the front
-    /// of the queue, if any. `Full`: no receiver waits, and the queue is at its capacity. `Closed`:
-    /// all senders or all receivers have been dropped. `NoMemory`: there was no room for the
-    /// message, and none could be had. The last three hand the message back and change nothing.
-    ///
+    /// Offers a message. `Sent`: it is at the queue's end, at any capacity if a receiver waits, and
+    /// a wake round follows. `Full`: no receiver waits, and the queue is at its capacity. `Closed`:
+    /// all senders or all receivers have been dropped. `NoMemory`: no room could be had for it.
     /// ```
     /// let mut chan: Chan<u64, ()> = Chan::new(alloc, None);
     /// chan.try_send(7);                  // Sent { filled: None }
@@ -62,11 +59,8 @@ impl<T: Drop, S: Drop, A: Allocator + Copy> Chan<T, S, A> {
         Reply::Sent { filled }
     }
 
-    /// Offers a message, and blocks if the queue is at its capacity. `Sent`, `Closed`: as
-    /// `try_send`. `Pending`: the message is behind the queue under this ticket. `Spent`: every
-    /// ticket was issued. `NoMemory`: as `try_send`, or no room to block. `Closed` and the last two
-    /// hand the message back and change nothing.
-    ///
+    /// Offers a message as `try_send` does, and blocks behind the queue instead of `Full`.
+    /// `NoMemory`: also if there was no room to block.
     /// ```
     /// let mut chan: Chan<u64, u32> = Chan::new(alloc, Some(0));
     /// chan.send(7, 10);                  // Pending(1), with the signal 10
@@ -115,10 +109,8 @@ impl<T: Drop, S: Drop, A: Allocator + Copy> Chan<T, S, A> {
 }
 
 impl<T: Drop, S: Drop, A: Allocator + Copy> Chan<T, S, A> {
-    /// Asks for the state of the blocked send with this ticket. `Accepted`: its message was taken
-    /// in. `Returned`: the channel is closed, and the message comes back. Both spend the ticket.
-    /// `Waiting`: it is still blocked; a signal given here replaces the one that the send left.
-    /// `NoTicket`: no live send has this ticket, and nothing changes. Doesn't allocate.
+    /// Asks for the state of the blocked send with this ticket. `Returned`: the channel is closed.
+    /// `Waiting`: `signal` replaces the one that the send left. Doesn't allocate.
     pub fn poll_send(&mut self, ticket: u64, signal: Option<S>) -> Reply<T, A>
         ensures step { Extends self.old (Step.PollSend ticket) result self.new }
         ensures becomes_due { IsReachable A self.old
@@ -151,9 +143,8 @@ impl<T: Drop, S: Drop, A: Allocator + Copy> Chan<T, S, A> {
         }
     }
 
-    /// Takes back the message of the blocked send with this ticket. `Returned`: it comes back.
-    /// `Accepted`: it was taken in before. Both spend the ticket. `NoTicket`: no live send has it,
-    /// and nothing changes. Doesn't allocate.
+    /// Takes back the message of the blocked send with this ticket. `Accepted`: it was taken in
+    /// before. Doesn't allocate.
     pub fn withdraw_send(&mut self, ticket: u64) -> Reply<T, A>
         ensures step { Extends self.old (Step.WithdrawSend ticket) result self.new }
         ensures becomes_due { IsReachable A self.old
@@ -190,7 +181,7 @@ impl<T: Drop, S: Drop, A: Allocator + Copy> Chan<T, S, A> {
             → Returns self.old self.new ticket message closed }
         ensures absent { result ≡ Reply.NoTicket
             → All (λ b. b.ticket ≢ ticket) self.old.blocked }
-        ensures either { (result ≡ Reply.NoTicket)
+        ensures possible_reply { (result ≡ Reply.NoTicket)
             ⊎ ((message : T) × (closed : Bool) × (result ≡ Reply.Returned message closed)) }
         ensures space { self.new.space ≡ self.old.space }
         ensures unchanged { IsRefusal result → self.new ≡ self.old }

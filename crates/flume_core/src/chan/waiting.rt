@@ -7,7 +7,6 @@ use std::alloc::Allocator;
 
 impl<T: Drop, S: Drop, A: Allocator + Copy> Chan<T, S, A> {
     /// Whether a receive would find nothing: `try_recv` answers `Empty` then, and `recv` parks.
-    ///
     /// ```
     /// let mut chan: Chan<u64, u32> = Chan::new(alloc, None);
     /// chan.receive_would_wait();         // true
@@ -22,7 +21,6 @@ impl<T: Drop, S: Drop, A: Allocator + Copy> Chan<T, S, A> {
     }
 
     /// Whether an offer would find no room: `try_send` answers `Full` then, and `send` blocks.
-    ///
     /// ```
     /// let mut chan: Chan<u64, u32> = Chan::new(alloc, Some(1));
     /// chan.send_would_wait();            // false
@@ -37,7 +35,6 @@ impl<T: Drop, S: Drop, A: Allocator + Copy> Chan<T, S, A> {
     }
 
     /// Whether this send is blocked, in an open channel: `poll_send` answers `Waiting` then.
-    ///
     /// ```
     /// let mut chan: Chan<u64, u32> = Chan::new(alloc, Some(0));
     /// chan.send(7, 10);                  // Pending(1)

@@ -9,10 +9,8 @@ use flume_state::entries::ReceiverStatus;
 use std::alloc::Allocator;
 
 impl<T: Drop, S: Drop, A: Allocator + Copy> Chan<T, S, A> {
-    /// Whether an abstract channel in this state may answer the step with `NoMemory`. It may answer
-    /// a receive so if a message is blocked: letting that one into the queue may need memory,
-    /// though it never does in a `Chan`. No step; doesn't allocate.
-    ///
+    /// Whether the abstract channel may answer the step with `NoMemory` in this state: to a receive
+    /// also while a message is blocked, though a `Chan` never does. No step; doesn't allocate.
     /// ```
     /// let mut chan: Chan<u64, u32> = Chan::new(alloc, Some(0));
     /// chan.no_memory_is_lawful(&Step::TryRecv);    // false
@@ -29,15 +27,14 @@ impl<T: Drop, S: Drop, A: Allocator + Copy> Chan<T, S, A> {
             Step::Recv(_) => {
                 self.line.blocked_len() > 0 || self.receive_would_wait() && self.next < u64::MAX
             }
-            Step::Poll(ticket) => self.looks_anew(*ticket) && self.line.blocked_len() > 0,
+            Step::Poll(ticket) => self.is_nonblocking(*ticket) && self.line.blocked_len() > 0,
             Step::Drain => self.line.queued_len() > 0,
             _ => false,
         }
     }
 
-    // Whether the parked receiver with this ticket, which doesn't block, would look for a message.
-    fn looks_anew(&self, ticket: u64) -> bool
-        ensures leaves { IsTrue result
+    fn is_nonblocking(&self, ticket: u64) -> bool
+        ensures nonblocking { IsTrue result
             ↔ (only_leaves (receiver_status ticket self.now.entries) ≡ true) }
     {
         match self.entries.status(ticket) {

@@ -1,10 +1,6 @@
 //! Conversions to std's errors, which `?` makes. A message that wasn't sent is dropped. A crate
-//! that uses them lists `flume_error` among its libraries too: the compiler finds an implementation
-//! on a type of std only in a library that the crate lists, and `flume` can't re-export it.
-//!
-//! The kinds are those of a pipe, and in `specs/Kinds.antt`. Only `NoMemory` becomes an
-//! `AllocError`. That the io error has the error's text is tested: std's contract of
-//! `io::Error::new` says only the kind.
+//! that uses them lists `flume_error` among its libraries, since `flume` can't re-export them. That
+//! the io error has the error's text is only tested.
 ghost use Rattle.std.specs.Prelude.{◌≡◌};
 ghost use Rattle.std.specs.Allocator.{alloc_error};
 ghost use Rattle.std.specs.IoError.{error_kind};

@@ -16,25 +16,22 @@ pub enum RecvError {
     NoMemory,
 }
 
-/// A receive that doesn't wait gave no message.
+/// A receive that doesn't wait gave no message. `Disconnected` is as in `RecvError`.
 #[derive(Clone, Copy, Debug, PartialEq, Eq, Drop)]
 pub enum TryRecvError {
     /// No message is queued, and the channel isn't closed: one may still come.
     Empty,
-    /// The channel is closed, and no message is left.
     Disconnected,
     /// Comes only of a converted `RecvError`: a receive that doesn't wait never allocates.
     NoMemory,
 }
 
-/// A receive that waits up to a deadline gave no message.
+/// A receive up to a deadline gave no message. But for `Timeout`, the cases are `RecvError`'s.
 #[derive(Clone, Copy, Debug, PartialEq, Eq, Drop)]
 pub enum RecvTimeoutError {
     /// The deadline was reached, and no message came.
     Timeout,
-    /// The channel is closed, and no message is left.
     Disconnected,
-    /// The receive had to wait, and there was no memory for that.
     NoMemory,
 }
 

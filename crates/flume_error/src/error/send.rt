@@ -30,14 +30,12 @@ pub enum TrySendError<T> {
     NoMemory(T),
 }
 
-/// A send that waits up to a deadline gave its message back.
+/// A send up to a deadline gave its message back. But for `Timeout`, the cases are `SendError`'s.
 #[derive(Clone, Copy, PartialEq, Eq, Drop)]
 pub enum SendTimeoutError<T> {
     /// The deadline was reached, and the message wasn't taken in.
     Timeout(T),
-    /// The channel is closed.
     Disconnected(T),
-    /// Out of memory, to queue the message or to wait.
     NoMemory(T),
 }
 

@@ -9,8 +9,7 @@ ghost use Rattle.flume_model.specs.AllBlock.{OnlyBlockingReceivers, IsAtMostCapa
 
 use std::alloc::Allocator;
 
-/// In each run, no message is lost, and none is given out twice, by any weight of messages. After
-/// both sides have disconnected, only the second is said.
+/// In each run, no message is given out twice, and none is lost until both sides have disconnected.
 pub fn messages_are_conserved<T, A: Allocator>()
     ensures law { (opening : Opening) (log : Log T A)
         → IsRun opening log → Conserved opening log }

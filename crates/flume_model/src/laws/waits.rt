@@ -5,9 +5,9 @@ ghost use Rattle.flume_model.specs.Log.{Log, Opening};
 ghost use Rattle.flume_model.specs.Entries.{round, round_fills, woken_count};
 ghost use Rattle.flume_model.specs.Parked.{entries};
 ghost use Rattle.flume_model.specs.Replies.{IsRun};
-ghost use Rattle.flume_model.specs.WaitLaws.{Covered, Bounded, WaitsWhileOpen};
-ghost use Rattle.flume_model.specs.WaitLaws.{NobodyStuck, WokenBlockWhileClosed, EntriesApart};
-ghost use Rattle.flume_model.specs.WaitLaws.{SidesApart, ToldFilled, NothingOnceOver};
+ghost use Rattle.flume_model.specs.WaitLaws.{Covered, Bounded, WaitsWhileOpen, NobodyStuck};
+ghost use Rattle.flume_model.specs.WaitLaws.{WokenBlockWhileClosed, EntriesApart, SidesApart};
+ghost use Rattle.flume_model.specs.WaitLaws.{FilledIfNamed, NothingOnceOver};
 ghost use Rattle.flume_model.specs.WakeRule.{IsWakeRound};
 
 use std::alloc::Allocator;
@@ -26,8 +26,7 @@ pub fn waiting_receivers_are_covered<T, A: Allocator>()
     ensures law { (opening : Opening) (log : Log T A) → IsRun opening log → Covered opening log }
 {}
 
-/// In each run, queued messages and waiting receivers are together within the greatest capacity or
-/// the most that ever waited at once.
+/// Queued messages and waiting receivers are together within the greatest capacity or the peak.
 pub fn queued_and_waiting_are_bounded<T, A: Allocator>()
     ensures law { (opening : Opening) (log : Log T A) → IsRun opening log → Bounded opening log }
 {}
@@ -44,8 +43,7 @@ pub fn nobody_is_stuck<T, A: Allocator>()
         → woken_count (entries opening log) ≡ 0 → NobodyStuck opening log }
 {}
 
-/// In each run, a blocking receiver is woken with no message only if the channel is closed and no
-/// sender is blocked.
+/// In each run, a receiver that blocks is woken only in a closed channel with no blocked sender.
 pub fn blocking_receivers_are_woken_only_by_closing<T, A: Allocator>()
     ensures law { (opening : Opening) (log : Log T A)
         → IsRun opening log → WokenBlockWhileClosed opening log }
@@ -60,8 +58,9 @@ pub fn tickets_of_receivers_are_apart<T, A: Allocator>()
 {}
 
 /// In each run, a parked receiver holds a message exactly if some reply named it as filled.
-pub fn receivers_are_filled_just_where_told<T, A: Allocator>()
-    ensures law { (opening : Opening) (log : Log T A) → IsRun opening log → ToldFilled opening log }
+pub fn receivers_are_filled_exactly_if_named<T, A: Allocator>()
+    ensures law { (opening : Opening) (log : Log T A)
+        → IsRun opening log → FilledIfNamed opening log }
 {}
 
 /// In each run, nothing is left once both sides have disconnected.

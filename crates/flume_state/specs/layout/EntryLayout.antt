@@ -6,7 +6,7 @@ use Rattle.flume_model.specs.Entries.{is_waiting, waiting_count, marked}
 use Rattle.flume_model.specs.declared.entry.Entry.{Entry}
 use Rattle.flume_model.specs.declared.entry.Mark.{Mark}
 use Rattle.flume_model.specs.declared.entry.Mark.TheVariants.{Waiting, Filled}
-use Rattle.flume_state.specs.declared.entries.Parked.{Parked}
+use Rattle.flume_state.specs.declared.entries.ParkedReceiver.{ParkedReceiver}
 use Rattle.flume_state.specs.declared.notice.Notice.{Notice}
 use Rattle.flume_state.specs.layout.WithTicket.{WithTicket}
 use Rattle.flume_state.specs.Receivers.{EntryList, waits_on}
@@ -31,12 +31,12 @@ module _ {T N : Type 0} where
 
 module _ {T S : Type 0} where
   -- what becomes of one with this mark that asks again: a filled one stays as it is
-  abbrev pub after_asking : Mark T → Option S → Parked T S → Parked T S
+  abbrev pub after_asking : Mark T → Option S → ParkedReceiver T S → ParkedReceiver T S
   after_asking (Filled message) signal p = p
   after_asking _ signal p = record p { mark = Waiting; notice = waits_on signal p.notice }
 
   -- an element of the chain as an entry
-  abbrev pub entry_in : ChainItem (WithTicket (Parked T S)) → Entry T (Notice S)
+  abbrev pub entry_in : ChainItem (WithTicket (ParkedReceiver T S)) → Entry T (Notice S)
   entry_in x = record {
     ticket = x.element.label;
     kind = x.element.value.kind;
@@ -45,12 +45,12 @@ module _ {T S : Type 0} where
   }
 
   -- the elements of the chain as entries
-  abbrev pub entries_in : List (ChainItem (WithTicket (Parked T S))) → EntryList T S
+  abbrev pub entries_in : List (ChainItem (WithTicket (ParkedReceiver T S))) → EntryList T S
   entries_in [] = []
   entries_in (x ∷ items) = entry_in x ∷ entries_in items
 
   -- each waits, and is due, as these say
-  abbrev pub Each : Bool → Bool → List (ChainItem (WithTicket (Parked T S))) → Type 0
+  abbrev pub Each : Bool → Bool → List (ChainItem (WithTicket (ParkedReceiver T S))) → Type 0
   Each waits due [] = ⊤
   Each waits due (x ∷ items) =
       (is_waiting x.element.value.mark ≡ waits)
@@ -58,13 +58,13 @@ module _ {T S : Type 0} where
       × Each waits due items
 
   -- the elements in their order, the boundaries, and how many wait
-  pub record EntryLayout (items : List (ChainItem (WithTicket (Parked T S)))) (due waits : Option ℕ)
-      (waiting : ℕ) : Type 0 where
-    pub quiet : List (ChainItem (WithTicket (Parked T S)))
-    pub dues : List (ChainItem (WithTicket (Parked T S)))
-    pub last : List (ChainItem (WithTicket (Parked T S)))
-    pub is : items ≡ quiet ++ (dues ++ last)
-    pub are_quiet : Each false false quiet
+  pub record EntryLayout (items : List (ChainItem (WithTicket (ParkedReceiver T S))))
+      (due waits : Option ℕ) (waiting : ℕ) : Type 0 where
+    pub inactive : List (ChainItem (WithTicket (ParkedReceiver T S)))
+    pub dues : List (ChainItem (WithTicket (ParkedReceiver T S)))
+    pub last : List (ChainItem (WithTicket (ParkedReceiver T S)))
+    pub is : items ≡ inactive ++ (dues ++ last)
+    pub are_inactive : Each false false inactive
     pub are_due : Each false true dues
     pub wait : Each true false last
     pub first_due : due ≡ first_place (dues ++ last)

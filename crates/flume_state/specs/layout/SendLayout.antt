@@ -29,9 +29,9 @@ module _ {S : Type 0} where
 
   -- the elements are those that aren't due, and then those that are, from `due` on
   pub record SendLayout (items : List (Element S)) (due : Option ℕ) : Type 0 where
-    pub quiet : List (Element S)
-    pub late : List (Element S)
-    pub parts : items ≡ quiet ++ late
-    pub none_due : EachDueIs false quiet
-    pub all_due : EachDueIs true late
-    pub first : due ≡ first_place late
+    pub not_due : List (Element S)
+    pub dues : List (Element S)
+    pub parts : items ≡ not_due ++ dues
+    pub none_due : EachDueIs false not_due
+    pub all_due : EachDueIs true dues
+    pub first : due ≡ first_place dues

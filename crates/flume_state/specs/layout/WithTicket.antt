@@ -1,8 +1,8 @@
 -- The elements of a chain, each with a ticket. The view of a channel has `WithTicket`.
 use Rattle.std.specs.Prelude.{◌≡◌, ◌==◌, ℕ, ◌≤◌, if◌then◌else◌}
-use Rattle.std.specs.Prelude.{List, [], ◌∷◌, ◌++◌, Option, Some, None, map}
+use Rattle.std.specs.Prelude.{List, [], ◌∷◌, Option, Some, None, map}
 use Rattle.std.specs.FinMap.{get}
-use Rattle.flume_chain.specs.ChainState.{ChainItem, put_before, times, places}
+use Rattle.flume_chain.specs.ChainState.{ChainItem, times, places}
 use Rattle.flume_chain.specs.declared.labelled.LabelledValue.{LabelledValue}
 use Rattle.flume_state.specs.layout.Places.{PlaceMap}
 
@@ -19,11 +19,6 @@ module _ {E : Type 0} where
   abbrev pub place_of : ℕ → List (ChainItem (WithTicket E)) → Option ℕ
   place_of t [] = None
   place_of t (x ∷ items) = if x.element.label == t then Some x.place else place_of t items
-
-  -- the elements with one more ahead of that at a place, or last if there is none there
-  abbrev pub put_before_or_last : List (ChainItem E) → Option ℕ → ChainItem E → List (ChainItem E)
-  put_before_or_last items None x = items ++ x ∷ []
-  put_before_or_last items (Some k) x = put_before items k x
 
   -- no two elements have a ticket or a place in common, and the map has the tickets' places
   pub record Agrees (items : List (ChainItem (WithTicket E))) (table : PlaceMap) : Type 0 where

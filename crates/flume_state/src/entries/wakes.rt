@@ -14,9 +14,8 @@ use flume_model::step::Kind;
 use std::alloc::Allocator;
 
 impl<T: Drop, S: Drop, A: Allocator + Copy> Entries<T, S, A> {
-    /// A wake round: the waiting receivers are woken in order, up to the first that isn't a stream.
-    /// If that one blocks, it is handed the front of the queue, and its ticket is the answer. All
-    /// that were met are due. If nothing is queued or nobody waits, only two counts are read.
+    /// Wakes the waiting receivers in order, up to the first that isn't a stream, and makes them
+    /// due. If that one blocks, it gets the front of the queue, and its ticket is the answer.
     #[inline(always)]
     pub fn wake(&mut self, line: &mut Line<T, S, A>) -> Option<u64>
         ensures fills { result ≡ round_for_fills line.old.queued self.old }
@@ -110,7 +109,7 @@ impl<T: Drop, S: Drop, A: Allocator + Copy> Entries<T, S, A> {
         self.take_first_due()
     }
 
-    // Out of line. It compares the two places again, so that its contract needs no premise.
+    // It compares the two places again, so that its contract needs no premise.
     #[cold]
     #[inline(never)]
     fn take_first_due(&mut self) -> Option<u64>

@@ -4,16 +4,15 @@ ghost use Rattle.flume_state.specs.layout.TicketHash.{hash_of};
 
 use std::hash::Hasher;
 
-/// Hashes a ticket. Eight that were issued in a row lie in one group of the table, and so in few
-/// cache lines. The groups are spread by multiplication (D. Knuth, The Art of Computer Programming,
-/// volume 3, 6.4), so that tickets a power of two apart don't meet in few groups. No caller chooses
-/// a ticket, so none can make tickets collide.
+/// Eight tickets that were issued in a row lie in one group of the table, so in few cache lines;
+/// the groups are spread by multiplication (D. Knuth, The Art of Computer Programming, volume 3,
+/// 6.4). No caller chooses a ticket, so none can make tickets collide.
 #[derive(Clone, Copy)]
 pub(super) struct TicketHasher {
     hash: u64,
 }
 
-// 2^64 times the golden ratio, which is below 1.
+// 2^64 divided by the golden ratio.
 const SPREAD: u64 = 0x9e37_79b9_7f4a_7c15;
 
 impl Default for TicketHasher {

@@ -11,9 +11,8 @@ use std::marker::Model;
 
 type Table<A> = HashMap<u64, u32, BuildHasherDefault<TicketHasher>, A>;
 
-/// The place of each of some tickets. Only `insert` allocates. The table is boxed, since most
-/// channels have none, and it would take some 85 bytes more in place: that costs time if a
-/// channel is made, used once and dropped.
+/// The table is boxed, since most channels have none, and in place it takes some 85 bytes more,
+/// which costs time if a channel is made, used once and dropped.
 #[derive(Drop)]
 pub(super) struct TicketTable<A: Allocator> {
     made: Option<Box<Table<A>, A>>,
@@ -43,15 +42,14 @@ impl<A: Allocator + Copy> TicketTable<A> {
     /// places.is_empty();                 // false
     /// ```
     #[inline(always)]
-    pub fn new(alloc: A) -> Self
+    pub(super) fn new(alloc: A) -> Self
         ensures empty { result ≡ empty }
     {
         TicketTable { made: None, alloc }
     }
 
-    /// Whether no ticket has a place. Reads a count.
     #[inline(always)]
-    pub fn is_empty(&self) -> bool
+    pub(super) fn is_empty(&self) -> bool
         ensures empty { result ≡ true ↔ self.now ≡ empty }
     {
         match &self.made {
@@ -60,10 +58,9 @@ impl<A: Allocator + Copy> TicketTable<A> {
         }
     }
 
-    /// The place of `ticket`, and `None` if it has none.
     #[tactic(auto, using(crate::proofs::TableLemmas::nothing_found))]
     #[inline(always)]
-    pub fn get(&self, ticket: u64) -> Option<u32>
+    pub(super) fn get(&self, ticket: u64) -> Option<u32>
         ensures place { result ≡ get self.now ticket }
     {
         match &self.made {
@@ -72,13 +69,12 @@ impl<A: Allocator + Copy> TicketTable<A> {
         }
     }
 
-    /// Gives `ticket` a place; replacing one doesn't allocate. If memory runs out, nothing changes.
     #[tactic(auto, using(crate::proofs::TableLemmas::nothing_found))]
     #[inline(never)]
-    pub fn insert(&mut self, ticket: u64, place: u32) -> Result<(), AllocError>
+    pub(super) fn insert(&mut self, ticket: u64, place: u32) -> Result<(), AllocError>
         ensures inserted { OnOk result (self.new ≡ insert self.old ticket place) }
+        ensures absent { OnOk result (get self.old ticket ≡ None) }
         ensures unchanged { OnErr result (self.new ≡ self.old) }
-        ensures absent { OnErr result (get self.old ticket ≡ None) }
     {
         if let Some(made) = &mut self.made {
             return insert_in(made, ticket, place);
@@ -92,10 +88,9 @@ impl<A: Allocator + Copy> TicketTable<A> {
         Ok(())
     }
 
-    /// The ticket has no place any more.
     #[tactic(auto, using(crate::proofs::TableLemmas::nothing_removed))]
     #[inline(always)]
-    pub fn remove(&mut self, ticket: u64)
+    pub(super) fn remove(&mut self, ticket: u64)
         ensures removed { self.new ≡ remove self.old ticket }
     {
         if let Some(made) = &mut self.made {
@@ -103,8 +98,7 @@ impl<A: Allocator + Copy> TicketTable<A> {
         }
     }
 
-    /// No ticket has a place any more.
-    pub fn clear(&mut self)
+    pub(super) fn clear(&mut self)
         ensures empty { self.new ≡ empty }
     {
         if let Some(made) = &mut self.made {
@@ -132,11 +126,14 @@ fn insert_in<A: Allocator + Copy>(
 ) -> Result<(), AllocError>
     ensures inserted { OnOk result
         (places_in table.new.entries ≡ insert (places_in table.old.entries) ticket place) }
+    ensures absent { OnOk result (get (places_in table.old.entries) ticket ≡ None) }
     ensures unchanged { OnErr result
         (places_in table.new.entries ≡ places_in table.old.entries) }
-    ensures absent { OnErr result (get (places_in table.old.entries) ticket ≡ None) }
 {
-    table.insert(ticket, place)?;
+    if let Some(old) = table.insert(ticket, place)? {
+        let _ = table.insert(ticket, old);
+        return Err(AllocError);
+    }
     Ok(())
 }
 

@@ -10,7 +10,6 @@ impl Draw {
         Draw { state: seed }
     }
 
-    /// The next number below this one, which isn't 0.
     pub fn below(&mut self, end: u64) -> u64 {
         self.state = self.state.wrapping_add(0x9e37_79b9_7f4a_7c15);
         let mut mixed = self.state;

@@ -11,7 +11,6 @@ const SHORT: Duration = Duration::from_micros(100);
 /// A future of a call, which comes to the call's answer.
 pub type Pending<'e> = Pin<Box<dyn Future<Output = String> + 'e>>;
 
-/// A call of a sender.
 #[derive(Clone, Copy)]
 pub enum SenderCall {
     Send(u64),
@@ -20,7 +19,6 @@ pub enum SenderCall {
     Len,
 }
 
-/// A call of a receiver.
 #[derive(Clone, Copy)]
 pub enum ReceiverCall {
     Recv,
@@ -69,7 +67,6 @@ impl Display for ReceiverCall {
     }
 }
 
-/// The answer of a send, where `refused` says why it failed.
 fn sent<E>(result: Result<(), E>, refused: impl FnOnce(E) -> &'static str) -> String {
     match result {
         Ok(()) => "sent".into(),
@@ -77,7 +74,6 @@ fn sent<E>(result: Result<(), E>, refused: impl FnOnce(E) -> &'static str) -> St
     }
 }
 
-/// The answer of a receive, where `refused` says why it failed.
 fn got<E>(result: Result<u64, E>, refused: impl FnOnce(E) -> &'static str) -> String {
     match result {
         Ok(message) => format!("got {message}"),
@@ -127,7 +123,6 @@ macro_rules! alike {
     };
 }
 
-/// The ends of flume, which have drains and futures.
 mod flume_ends {
     use super::*;
 
@@ -165,7 +160,6 @@ mod flume_ends {
     }
 }
 
-/// The ends of crossbeam-channel, which have neither.
 mod crossbeam_ends {
     use super::*;
 

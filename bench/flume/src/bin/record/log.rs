@@ -4,24 +4,19 @@ use std::fmt::Display;
 use std::sync::atomic::{AtomicU64, Ordering};
 use std::sync::{Arc, Mutex, PoisonError};
 
-/// The counter of a run, which all its threads share. What one thread counts after another one has
-/// counted is later, so the numbers put what the threads recorded in the order of time.
+/// The counter of a run, which all its threads share: its numbers are in the order of time.
 #[derive(Clone, Default)]
 pub struct Clock {
     next: Arc<AtomicU64>,
 }
 
 impl Clock {
-    /// A number that is larger than each one before.
     pub fn now(&self) -> u64 {
         self.next.fetch_add(1, Ordering::SeqCst)
     }
 }
 
-/// What one thread recorded: lines, each with its time.
-///
-/// Only its thread writes into it. It has a lock since the main thread reads it also if a call of
-/// the thread hangs.
+/// What one thread recorded. It has a lock since the main thread reads it if a call hangs.
 #[derive(Clone)]
 pub struct Log {
     clock: Clock,
@@ -42,20 +37,17 @@ impl Log {
         lines.push((time, line));
     }
 
-    /// Records that a call begins.
     pub fn begin(&self, name: &str, call: impl Display) {
         let line = format!("{name}: {call}");
         self.push(self.clock.now(), line);
     }
 
-    /// Records that the last call of this name has returned now.
     pub fn end(&self, name: &str, answer: impl Display) {
         let time = self.clock.now();
         self.push(time, format!("{name} -> {answer}"));
     }
 }
 
-/// The lines of all logs, in the order of time.
 fn merged(logs: &[Log]) -> Vec<(u64, String)> {
     let mut lines = Vec::new();
     for log in logs {
@@ -66,7 +58,6 @@ fn merged(logs: &[Log]) -> Vec<(u64, String)> {
     lines
 }
 
-/// The recording of a run: its opening line, and what its threads recorded, in the order of time.
 pub fn recording(capacity: Option<usize>, logs: &[Log]) -> String {
     let mut text = match capacity {
         None => String::from("unbounded\n"),

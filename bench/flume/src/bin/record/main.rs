@@ -38,7 +38,6 @@ fn read_run(words: &[String]) -> Option<Run> {
     (run.threads >= 2).then_some(run)
 }
 
-/// What the run recorded, if there is such a library.
 fn recorded(library: &str, run: &Run) -> Option<String> {
     match (library, run.capacity) {
         ("flume", None) => Some(run.recorded(flume::unbounded())),
@@ -49,7 +48,6 @@ fn recorded(library: &str, run: &Run) -> Option<String> {
     }
 }
 
-/// What is to be printed, if the words ask for something.
 fn asked_for(words: &[String]) -> Option<String> {
     match words {
         [word] if word == "lost_order" => Some(lost_order()),

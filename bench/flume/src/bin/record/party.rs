@@ -8,15 +8,12 @@ use std::hint;
 use std::task::{Context, Poll, Waker};
 use std::thread;
 
-/// How many futures a thread has at most.
 const FUTURES: usize = 2;
 
-/// What a thread is told before it begins.
 pub struct Seat {
     pub name: String,
     pub log: Log,
     pub draw: Draw,
-    /// How many calls it makes.
     pub calls: usize,
     /// The number before its first message.
     pub message: u64,
@@ -66,8 +63,7 @@ impl<'e, S: SendingEnd, R: ReceivingEnd> Party<'e, S, R> {
         }
     }
 
-    /// Makes the thread's calls, the last of which drop all ends but the first ones, for which it
-    /// leaves room.
+    /// Makes the thread's calls, the last of which drop all ends but the first ones.
     pub fn run(mut self) {
         let first = usize::from(self.sender.is_some()) + usize::from(self.receiver.is_some());
         let mut left = self.seat.calls.saturating_sub(first);
@@ -82,7 +78,6 @@ impl<'e, S: SendingEnd, R: ReceivingEnd> Party<'e, S, R> {
         while self.drop_sender() + self.drop_receiver() > 0 {}
     }
 
-    /// How many ends it has apart from the first ones.
     fn others(&self) -> usize {
         self.senders.len() + self.receivers.len()
     }
@@ -195,7 +190,6 @@ impl<'e, S: SendingEnd, R: ReceivingEnd> Party<'e, S, R> {
         1
     }
 
-    /// Begins a future at a place that is free, and polls it once.
     fn begin_future(&mut self, sends: bool) -> usize {
         let Some(place) = self.futures.iter().position(Option::is_none) else {
             return 0;

@@ -11,7 +11,6 @@ use std::time::{Duration, Instant};
 /// If for so long no call begins and none returns, those that are open are taken to hang.
 const LONG: Duration = Duration::from_secs(3);
 
-/// What a run is to be.
 pub struct Run {
     pub capacity: Option<usize>,
     pub threads: usize,
@@ -19,7 +18,6 @@ pub struct Run {
     pub seed: u64,
 }
 
-/// The ends that a thread gets.
 type Hand<S, R> = (Option<S>, Option<R>);
 
 /// Of three threads, the first one has a sender, the next one a receiver, and the last one both.
@@ -41,7 +39,6 @@ fn clone_if<E: Clone>(wanted: bool, log: &Log, word: &str, end: &E) -> Option<E>
     })
 }
 
-/// Drops an end, if it is there, with its record.
 fn drop_end<E>(name: &str, log: &Log, word: &str, end: Option<E>) {
     if let Some(end) = end {
         log.begin(name, word);
@@ -80,7 +77,6 @@ fn wait_for(threads: &[JoinHandle<()>], clock: &Clock) {
 }
 
 impl Run {
-    /// How many of the calls are those of one thread, where so many were made before.
     fn share(&self, thread: usize, before: usize) -> usize {
         let left = self.calls.saturating_sub(before);
         left / self.threads + usize::from(thread < left % self.threads)
@@ -96,7 +92,6 @@ impl Run {
         }
     }
 
-    /// The ends of each thread, cloned from the first ones.
     fn deal<S: Clone, R: Clone>(&self, log: &Log, sender: &S, receiver: &R) -> Vec<Hand<S, R>> {
         let deal = |thread| {
             let sender = clone_if(has_sender(thread), log, "clone_sender", sender);

@@ -1,8 +1,7 @@
 -- Up to the least misplaced number, or the history's end, each entry is looked for.
 use Rattle.std.proofs.Common.{arith, below_more, map, refl}
 use Rattle.std.proofs.lemmas.Option.{slice_get_read}
-use Rattle.flume_audit.proofs.DisagreementLemmas.{bound_within, rises_below, untold, end_some, end_none}
-use Rattle.flume_audit.proofs.DisagreementLemmas.{agree_here}
+use Rattle.flume_audit.proofs.DisagreementLemmas.{bound_within, rises_below, without_one_receipt, end_some, end_none, agree_here}
 use Rattle.flume_audit.proofs.differs.differs.Invariants.{same_entry}
 use Rattle.flume_audit.proofs.differs.differs.Goals as goal
 
@@ -31,7 +30,7 @@ returns-then-not-has_receipt_at-clause-some g c =
     let within = bound_within history (map g.H.AsSlice.items c.args.seats.now) _
     c.first_misplaced-end.ensures.least in
     let bound = c.unwrap_or-number-end.ensures in
-    untold history (map g.H.AsSlice.items c.args.seats.now) (same_entry g) _
+    without_one_receipt history (map g.H.AsSlice.items c.args.seats.now) (same_entry g) _
     c.first_misplaced-end.ensures.least c.loop-number.number c.index-history-number.result
     (omega arith) (slice_get_read history _ c.loop-number.number c.index-history-number.result
     refl (omega (arith, within)) c.index-history-number.is) c.if-not-has_receipt_at.ensures.sole

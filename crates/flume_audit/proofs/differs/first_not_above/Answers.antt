@@ -3,8 +3,7 @@ use Rattle.std.proofs.Common.{None}
 use Rattle.flume_audit.proofs.LeastLemmas.{lesser_none, lesser_assoc}
 use Rattle.flume_audit.proofs.NeighbourLemmas.{least_with_second, least_of_rest, none_of_one}
 use Rattle.flume_audit.proofs.differs.first_not_above.Goals as goal
-use Rattle.flume_audit.proofs.differs.first_not_above.Goals.{then-receipt-before}
-use Rattle.flume_audit.proofs.differs.first_not_above.Goals.{else-receipt-before}
+use Rattle.flume_audit.proofs.differs.first_not_above.Goals.{then-receipt-before, else-receipt-before}
 
 pub loop-rest-preserved : goal.loop-rest-preserved
 loop-rest-preserved g c = record {

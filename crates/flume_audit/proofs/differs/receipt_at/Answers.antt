@@ -1,8 +1,7 @@
 -- The receipt at the place that the search finds has the number, or none has.
 use Rattle.flume_audit.proofs.RisingLemmas.{the_one, none_past, none_other}
 use Rattle.flume_audit.proofs.differs.receipt_at.Goals as goal
-use Rattle.flume_audit.proofs.differs.receipt_at.Goals.{in_default-via-in-Some+else-receipt-number}
-use Rattle.flume_audit.proofs.differs.receipt_at.Goals.{in_default-via-in_default}
+use Rattle.flume_audit.proofs.differs.receipt_at.Goals.{in_default-via-in-Some+else-receipt-number, in_default-via-in_default}
 
 pub returns-in-Some : goal.returns-in-Some
 returns-in-Some g c =

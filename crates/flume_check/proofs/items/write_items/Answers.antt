@@ -3,7 +3,7 @@ use Rattle.std.proofs.Common.{◌≡◌, ◌∙◌, ap, ◌∷◌, ◌++◌, get
 use Rattle.std.proofs.lemmas.List.{append_assoc}
 use Rattle.flume_recording.specs.Recordings.{names_of}
 use Rattle.flume_check.specs.ItemLines.{item_line, item_lines}
-use Rattle.flume_check.proofs.ItemLists.{lines_more}
+use Rattle.flume_check.proofs.ItemListLemmas.{lines_more}
 use Rattle.flume_check.proofs.items.write_items.Goals as goal
 
 pub loop-item-preserved : goal.loop-item-preserved

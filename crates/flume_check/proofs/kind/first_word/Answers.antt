@@ -1,7 +1,7 @@
 -- A line is cut at its first space.
 use Rattle.std.proofs.Common.{◌∙◌, sym, ap}
 use Rattle.flume_check.specs.Kinds.{first_word as word_of}
-use Rattle.flume_check.proofs.Words.{one_word, word_before}
+use Rattle.flume_check.proofs.WordLemmas.{one_word, word_before}
 use Rattle.flume_check.proofs.kind.first_word.Goals as goal
 
 pub returns-in-Some : goal.returns-in-Some

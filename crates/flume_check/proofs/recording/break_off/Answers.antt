@@ -3,7 +3,7 @@ use Rattle.std.proofs.Common.{◌+◌, ◌++◌, ◌∙◌, ap, subst}
 use Rattle.std.specs.List.{All}
 use Rattle.flume_recording.specs.EventLines.{thread_of}
 use Rattle.flume_check.specs.CallsText.{IsPossible, but_text, line_text, recorded_text}
-use Rattle.flume_check.proofs.Broken.{broken}
+use Rattle.flume_check.proofs.BreakLemmas.{broken}
 use Rattle.flume_check.proofs.recording.break_off.Goals as goal
 
 pub returns : goal.returns

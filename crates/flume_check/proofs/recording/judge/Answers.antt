@@ -84,5 +84,5 @@ returns g c = record {
       inr (inr (inl (leaves input c.args.capacity c.args.events.items (names_of c.args.names.now) reads
       (subst (λ l. AreExplained c.args.capacity (take c.in-GaveUp.place l)) c.deref.ensures.value
       (c.in-GaveUp.ensures.gave_up c.in-GaveUp.place refl).explained)))))
-      c.give_up.ensures.leaves_open;
+      c.give_up.ensures.gives_up;
 }

@@ -47,5 +47,5 @@ returns-in-GaveUp g c = record {
       → ShowsSteps g.row.A.Denot input script.text.items script.status ⊎ GivesUp g.row.A.Denot input script.text.items script.status)
       (λ script leaves input rest begins reads. inr (leaves input c.args.capacity c.args.events.now (names_of c.args.names.now) reads
       (c.in-GaveUp.ensures.gave_up c.in-GaveUp.place refl).explained))
-      c.give_up.ensures.leaves_open;
+      c.give_up.ensures.gives_up;
 }

@@ -3,7 +3,7 @@ use Rattle.std.proofs.Common.{◌≡◌, ◌∙◌, ap, ◌++◌, string_bytes, 
 use Rattle.std.proofs.lemmas.List.{append_assoc}
 use Rattle.flume_recording.specs.Texts.{answer_text}
 use Rattle.flume_check.specs.CallsText.{or_text}
-use Rattle.flume_check.proofs.Shown.{or_more}
+use Rattle.flume_check.proofs.ShownLineLemmas.{or_more}
 use Rattle.flume_check.proofs.texts.write_or.Goals as goal
 
 pub loop-answer-preserved : goal.loop-answer-preserved

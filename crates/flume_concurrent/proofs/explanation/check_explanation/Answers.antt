@@ -5,9 +5,9 @@ use Rattle.std.specs.BTreeMap.{is_at}
 use Rattle.std.specs.Map.{lookup}
 use Rattle.std.specs.Ordering.{nat_cmp}
 use Rattle.flume_model.specs.Log.{opens}
-use Rattle.flume_history.proofs.Follows.{with_next}
+use Rattle.flume_history.proofs.FollowLemmas.{with_next}
 use Rattle.flume_concurrent.specs.Descriptions.{DescribeEach, BreaksAt}
-use Rattle.flume_concurrent.proofs.Unique.{beginning, breaks_at, explained}
+use Rattle.flume_concurrent.proofs.UniqueLemmas.{beginning, breaks_at, explained}
 use Rattle.flume_concurrent.proofs.explanation.check_explanation.Goals as goal
 
 pub returns-in-Unlawful-clause-breaks : goal.returns-in-Unlawful-clause-breaks

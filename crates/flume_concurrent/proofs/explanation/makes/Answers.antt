@@ -2,7 +2,7 @@
 use Rattle.std.proofs.Common.{refl, subst, rules}
 use Rattle.flume_concurrent.specs.declared.event.Item.TheVariants.{Makes}
 use Rattle.flume_concurrent.specs.Explanations.{IsNextStep}
-use Rattle.flume_concurrent.proofs.Unique.{unlawful}
+use Rattle.flume_concurrent.proofs.UniqueLemmas.{unlawful}
 use Rattle.flume_concurrent.proofs.explanation.makes.Goals as goal
 
 pub returns-then-take_step-clause-lawful : goal.returns-then-take_step-clause-lawful

@@ -1,5 +1,5 @@
 -- The items up to the last of these events explain them.
-use Rattle.flume_concurrent.proofs.Beginnings.{beginning_explained}
+use Rattle.flume_concurrent.proofs.BeginningLemmas.{beginning_explained}
 use Rattle.flume_concurrent.proofs.laws.beginnings_are_explained.Goals as goal
 
 pub returns : goal.returns

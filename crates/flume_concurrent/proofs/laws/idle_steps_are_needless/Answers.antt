@@ -1,5 +1,5 @@
 -- The idle steps are taken out, one by one.
-use Rattle.flume_concurrent.proofs.LeanSteps.{explained_lean}
+use Rattle.flume_concurrent.proofs.IdleStepLemmas.{explained_lean}
 use Rattle.flume_concurrent.proofs.laws.idle_steps_are_needless.Goals as goal
 
 pub returns : goal.returns

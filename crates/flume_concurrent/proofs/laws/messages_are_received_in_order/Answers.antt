@@ -1,5 +1,5 @@
 -- The second message was handed out first, so it was offered first.
-use Rattle.flume_concurrent.proofs.InOrder.{in_order}
+use Rattle.flume_concurrent.proofs.InOrderLemmas.{in_order}
 use Rattle.flume_concurrent.proofs.laws.messages_are_received_in_order.Goals as goal
 
 pub returns : goal.returns

@@ -1,5 +1,5 @@
 -- What is received was handed out, and so it was offered.
-use Rattle.flume_concurrent.proofs.Unsent.{unsent}
+use Rattle.flume_concurrent.proofs.UnsentLemmas.{unsent}
 use Rattle.flume_concurrent.proofs.laws.only_what_was_sent_is_received.Goals as goal
 
 pub returns : goal.returns

@@ -1,5 +1,5 @@
 -- Each step waits for an event of its thread.
-use Rattle.flume_concurrent.proofs.Late.{explained_late}
+use Rattle.flume_concurrent.proofs.LateCallLemmas.{explained_late}
 use Rattle.flume_concurrent.proofs.laws.steps_may_come_late.Goals as goal
 
 pub returns : goal.returns

@@ -1,4 +1,4 @@
-use Rattle.flume_core.proofs.StateFacts.{channel_facts, nobody_is_stuck}
+use Rattle.flume_core.proofs.StateFactLemmas.{channel_facts, nobody_is_stuck}
 use Rattle.flume_core.proofs.facts.facts.Goals as goal
 
 pub returns-clause-facts : goal.returns-clause-facts

@@ -1,5 +1,5 @@
-use Rattle.flume_model.proofs.Beginnings.{throughout}
-use Rattle.flume_core.proofs.Headline.{headline}
+use Rattle.flume_model.proofs.BeginningLemmas.{throughout}
+use Rattle.flume_core.proofs.TheoremLemmas.{headline}
 use Rattle.flume_core.proofs.run.headline_of_steps.Goals as goal
 
 pub returns : goal.returns

@@ -1,8 +1,8 @@
 -- What a list of steps leaves.
 use Rattle.std.proofs.Common.{◌≡◌, [], rules}
-use Rattle.flume_core.proofs.Headline.{headline}
-use Rattle.flume_core.proofs.Transitions.{none_done, one_more, all_done, extended, spacious}
-use Rattle.flume_model.proofs.Beginnings.{throughout}
+use Rattle.flume_core.proofs.TheoremLemmas.{headline}
+use Rattle.flume_core.proofs.TransitionLemmas.{none_done, one_more, all_done, extended, spacious}
+use Rattle.flume_model.proofs.BeginningLemmas.{throughout}
 use Rattle.flume_core.proofs.run.run.Goals as goal
 
 pub returns-clause-transitions : goal.returns-clause-transitions

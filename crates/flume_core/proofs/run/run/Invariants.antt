@@ -1,6 +1,6 @@
 use Rattle.std.proofs.Common.{◌≡◌, ◌+◌, ◌≤◌, vec_len, vec_capacity}
 use Rattle.std.specs.VecDeque.{deque_len}
-use Rattle.flume_core.proofs.Transitions.{DoneUpTo}
+use Rattle.flume_core.proofs.TransitionLemmas.{DoneUpTo}
 use Rattle.flume_core.proofs.run.run.Given as goal
 
 abbrev pub invariant-loop-step : goal.invariant-loop-step

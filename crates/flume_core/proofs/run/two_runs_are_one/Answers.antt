@@ -1,4 +1,4 @@
-use Rattle.flume_core.proofs.Transitions.{joined}
+use Rattle.flume_core.proofs.TransitionLemmas.{joined}
 use Rattle.flume_core.proofs.run.two_runs_are_one.Goals as goal
 
 pub returns : goal.returns

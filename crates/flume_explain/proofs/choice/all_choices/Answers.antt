@@ -2,14 +2,13 @@
 use Rattle.std.proofs.Common.{◌++◌, ◌∷◌, [], sym, ◌∙◌, ap, subst, if◌then◌else◌}
 use Rattle.std.proofs.lemmas.List.{take_all}
 use Rattle.flume_explain.specs.declared.choice.Choice.TheVariants.{TakeEvent}
-use Rattle.flume_explain.specs.Dead.{AreStepsBut}
-use Rattle.flume_explain.proofs.Steps.{steps_more, steps_all}
+use Rattle.flume_explain.proofs.StepLemmas.{AreStepsBut, steps_more, steps_all}
 use Rattle.flume_explain.proofs.choice.all_choices.Goals as goal
 
 pub loop-call-preserved : goal.loop-call-preserved
 loop-call-preserved g c = record {
   steps = steps_more c.args.own c.loop-call.choices.items c.push_steps_unless.new.choices.items c.args.calls.now c.loop-call.call-index _
-      c.loop-call-test.true c.loop-call.invariant.steps (c.push_steps_unless.ensures.kept c.if-not-push_steps_unless.false)
+      c.loop-call-test.true c.loop-call.invariant.steps (c.push_steps_unless.ensures.old_choices c.if-not-push_steps_unless.false)
       (c.push_steps_unless.ensures.steps c.if-not-push_steps_unless.false);
 }
 

@@ -1,5 +1,5 @@
 use Rattle.std.proofs.Common.{take}
-use Rattle.flume_explain.specs.Dead.{AreStepsBut}
+use Rattle.flume_explain.proofs.StepLemmas.{AreStepsBut}
 use Rattle.flume_explain.proofs.choice.all_choices.Given as goal
 
 -- each call before this one has its steps, but the own one

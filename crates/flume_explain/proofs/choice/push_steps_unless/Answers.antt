@@ -1,6 +1,6 @@
 -- The steps that were pushed are the call's.
 use Rattle.std.proofs.Common.{inl}
-use Rattle.flume_explain.proofs.Steps.{steps_added}
+use Rattle.flume_explain.proofs.StepLemmas.{steps_added}
 use Rattle.flume_explain.proofs.choice.push_steps_unless.Goals as goal
 
 pub returns-else-eq-clause-steps : goal.returns-else-eq-clause-steps

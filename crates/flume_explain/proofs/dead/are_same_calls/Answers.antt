@@ -1,6 +1,6 @@
 -- What `==` says of each of them.
 use Rattle.std.proofs.Common.{sym, ◌∙◌}
-use Rattle.flume_explain.proofs.Same.{same_calls}
+use Rattle.flume_explain.proofs.SameLemmas.{same_calls}
 use Rattle.flume_explain.proofs.dead.are_same_calls.Goals as goal
 
 pub returns : goal.returns

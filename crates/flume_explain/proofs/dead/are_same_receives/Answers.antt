@@ -1,6 +1,6 @@
 -- What `==` says of each of them.
 use Rattle.std.proofs.Common.{sym, ◌∙◌}
-use Rattle.flume_explain.proofs.Same.{same_receives}
+use Rattle.flume_explain.proofs.SameLemmas.{same_receives}
 use Rattle.flume_explain.proofs.dead.are_same_receives.Goals as goal
 
 pub returns : goal.returns

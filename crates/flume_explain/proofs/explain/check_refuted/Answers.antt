@@ -1,7 +1,7 @@
 -- What is so of a beginning of the events is so of all of them.
 use Rattle.flume_model.specs.Log.{opens}
 use Rattle.std.proofs.Common.{◌+◌}
-use Rattle.flume_explain.proofs.Beginnings.{breaks_on, unexplained_on}
+use Rattle.flume_explain.proofs.BeginningLemmas.{breaks_on, unexplained_on}
 use Rattle.flume_explain.proofs.explain.check_refuted.Goals as goal
 
 pub returns-clause-breaks : goal.returns-clause-breaks

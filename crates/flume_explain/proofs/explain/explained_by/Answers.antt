@@ -4,7 +4,7 @@ use Rattle.flume_model.specs.Log.{opens}
 use Rattle.flume_concurrent.specs.Explanations.{events_in, IsExplained}
 use Rattle.flume_concurrent.specs.Descriptions.{DescribeExplanation}
 use Rattle.flume_explain.specs.Reached.{AreExplained}
-use Rattle.flume_explain.proofs.Beginnings.{all_of}
+use Rattle.flume_explain.proofs.BeginningLemmas.{all_of}
 use Rattle.flume_explain.proofs.explain.explained_by.Goals as goal
 
 pub returns-in-Explains-clause-explains : goal.returns-in-Explains-clause-explains

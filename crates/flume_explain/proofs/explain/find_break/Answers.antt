@@ -3,7 +3,7 @@ use Rattle.std.proofs.Common.{◌≡◌, refl, sym, subst, take, arith}
 use Rattle.flume_model.specs.Log.{opens}
 use Rattle.flume_concurrent.specs.Explanations.{IsExplained}
 use Rattle.flume_explain.specs.Search.{UnexplainedAfter}
-use Rattle.flume_explain.proofs.Beginnings.{none_explained, some_events, all_not_on, unexplained_after}
+use Rattle.flume_explain.proofs.BeginningLemmas.{none_explained, some_events, all_not_on, unexplained_after}
 use Rattle.flume_explain.proofs.explain.find_break.Goals as goal
 use Rattle.flume_explain.proofs.explain.find_break.Goals.{in-Path, in-Nothing}
 

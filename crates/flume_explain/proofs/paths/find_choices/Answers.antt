@@ -3,7 +3,7 @@ use Rattle.std.proofs.Common.{◌≡◌, ℕ, sym, subst}
 use Rattle.flume_model.specs.Log.{opens}
 use Rattle.flume_explain.specs.Dead.{IsDead}
 use Rattle.flume_explain.specs.Reached.{IsReached}
-use Rattle.flume_explain.proofs.Starts.{start_reached, unexplained}
+use Rattle.flume_explain.proofs.StartLemmas.{start_reached, unexplained}
 use Rattle.flume_explain.proofs.paths.find_choices.Goals as goal
 
 pub returns-clause-path : goal.returns-clause-path

@@ -1,6 +1,6 @@
 -- The last event, and those before it, at the places.
 use Rattle.std.proofs.Common.{arith}
-use Rattle.flume_explain.proofs.SeenPatterns.{out_of_order}
+use Rattle.flume_explain.proofs.SeenPatternLemmas.{out_of_order}
 use Rattle.flume_explain.proofs.patterns.is_out_of_order.Goals as goal
 
 pub returns-then-begins : goal.returns-then-begins

@@ -1,5 +1,5 @@
 -- The last event, and those before it.
-use Rattle.flume_explain.proofs.SeenPatterns.{unsent_at}
+use Rattle.flume_explain.proofs.SeenPatternLemmas.{unsent_at}
 use Rattle.flume_explain.proofs.patterns.is_unsent.Goals as goal
 
 pub returns-in-Some-got : goal.returns-in-Some-got

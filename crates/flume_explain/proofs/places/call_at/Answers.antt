@@ -2,7 +2,7 @@
 use Rattle.std.proofs.Common.{sym, ap}
 use Rattle.std.specs.Option.{option_and_then}
 use Rattle.flume_explain.specs.Configurations.{call_of}
-use Rattle.flume_explain.proofs.EventsAt.{event_past}
+use Rattle.flume_explain.proofs.EventsAtLemmas.{event_past}
 use Rattle.flume_explain.proofs.places.call_at.Goals as goal
 
 pub returns-in-None : goal.returns-in-None

@@ -1,5 +1,5 @@
 -- All events were taken.
-use Rattle.flume_explain.proofs.Taken.{taken_all}
+use Rattle.flume_explain.proofs.TakeLemmas.{taken_all}
 use Rattle.flume_explain.proofs.replay.make_choices.Goals as goal
 
 pub returns-then-replay-events : goal.returns-then-replay-events

@@ -6,7 +6,7 @@ use Rattle.flume_explain.specs.declared.search.Entered.TheVariants.{GoesOn}
 use Rattle.std.proofs.lemmas.Bool.{false≢true}
 use Rattle.flume_explain.specs.Dead.{IsDead}
 use Rattle.flume_explain.specs.Reached.{AreExplained, IsReached}
-use Rattle.flume_explain.proofs.ReachedEvents.{reached_explained}
+use Rattle.flume_explain.proofs.ReachedEventLemmas.{reached_explained}
 use Rattle.flume_explain.specs.Search.{AreOnTheWay}
 use Rattle.flume_explain.proofs.search.find_path.Goals as goal
 use Rattle.flume_explain.proofs.search.find_path.Goals.{in-GoesOn, in_default-matches}
@@ -18,14 +18,14 @@ loop-init g c = record {
         (IsDead g.T.PartialEq.eq c.args.events.now 0 c.args.start)) (sym c.new-search.ensures.no_frames) (λ gone. gone);
     dead = subst (All (λ d. IsDead g.T.PartialEq.eq c.args.events.now d.place d.configuration)) (sym c.new-search.ensures.none_dead) (All-nil _);
   });
-  nowhere = λ is. absurd (c.enter-advance.ensures.goes is);
+  nowhere = λ is. absurd (c.enter-advance.ensures.not_nowhere is);
   reached = λ is o r. c.enter-advance.ensures.reached is o (record {
     frames = subst (All (λ f. IsReached g.T.PartialEq.eq c.args.events.now o f.place f.configuration)) (sym c.new-search.ensures.no_frames) (All-nil _);
-    furthest = subst (AreExplained g.T.PartialEq.eq c.args.events.now o) (sym c.new-search.ensures.no_way)
+    furthest = subst (AreExplained g.T.PartialEq.eq c.args.events.now o) (sym c.new-search.ensures.furthest_zero)
         (reached_explained g.T.PartialEq.eq c.args.events.now o 0 c.args.start (omega arith) r);
   }) r;
   at_end = λ is o r. c.enter-advance.ensures.at_end is o r;
-  furthest = λ is. absurd (c.enter-advance.ensures.goes is);
+  furthest = λ is. absurd (c.enter-advance.ensures.not_nowhere is);
 }
 
 pub advance-advance-requires : goal.advance-advance-requires
@@ -34,7 +34,7 @@ advance-advance-requires g c =
       | in-GoesOn w ↦ w.in-GoesOn.is
       | in_default-matches w ↦ absurd (false≢true (sym w.matches-is ∙ c.if-not-matches.false))
     ] in
-    record { going = (c.args.start, c.loop.invariant.goes_on going) }
+    record { is_search = (c.args.start, c.loop.invariant.goes_on going) }
 
 pub loop-preserved : goal.loop-preserved
 loop-preserved g c =

@@ -1,7 +1,7 @@
 -- Where the round ends at a receive, those behind it stay as they are.
 use Rattle.std.proofs.Common.{◌<◌, arith, length, rules}
 use Rattle.std.proofs.Math.Seq.{drop-cons}
-use Rattle.flume_explain.proofs.Rounds.{ends_here, meets_block, meets_plain}
+use Rattle.flume_explain.proofs.RoundLemmas.{ends_here, meets_block, meets_plain}
 use Rattle.flume_explain.proofs.wakes.wake_round.Goals as goal
 
 pub returns-in-Block-clause-round : goal.returns-in-Block-clause-round

@@ -4,8 +4,8 @@ use Rattle.std.proofs.lemmas.List.{take_all}
 use Rattle.flume_model.specs.Log.{opens}
 use Rattle.flume_history.specs.Equal.{Equals}
 use Rattle.flume_history.specs.Histories.{IsSaidOf, BreaksAt}
-use Rattle.flume_history.proofs.Equals.{tells_want}
-use Rattle.flume_history.proofs.Follows.{with_next, breaks_at, beginning}
+use Rattle.flume_history.proofs.EqualityLemmas.{tells_want}
+use Rattle.flume_history.proofs.FollowLemmas.{with_next, breaks_at, beginning}
 use Rattle.flume_history.proofs.check.check_history.Goals as goal
 
 pub returns-in-Unlawful-clause-run : goal.returns-in-Unlawful-clause-run

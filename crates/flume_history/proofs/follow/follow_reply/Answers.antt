@@ -4,8 +4,8 @@ use Rattle.std.proofs.Common.{◌≡◌, false, ◌∷◌, sym, ◌∙◌, subst
 use Rattle.flume_core.specs.Represents.{Represents}
 use Rattle.flume_history.specs.Equal.{equal_replies, Equals}
 use Rattle.flume_history.specs.SameRuns.{IsNoMemory}
-use Rattle.flume_history.proofs.Equals.{same_want, goes_by_messages}
-use Rattle.flume_history.proofs.Follows.{not_want, no_other}
+use Rattle.flume_history.proofs.EqualityLemmas.{same_want, goes_by_messages}
+use Rattle.flume_history.proofs.FollowLemmas.{not_want, no_other}
 use Rattle.flume_history.proofs.follow.follow_reply.Goals as goal
 
 pub returns-in-NoMemory-clause-not_lawful : goal.returns-in-NoMemory-clause-not_lawful

@@ -3,11 +3,11 @@
 use Rattle.std.proofs.Common.{◌≡◌, ◌∷◌, false, refl, sym, ◌∙◌, ap, subst}
 use Rattle.flume_model.specs.declared.step.Reply.TheVariants.{NoMemory}
 use Rattle.flume_core.specs.Represents.{Represents}
-use Rattle.flume_core.proofs.Keeping.{still}
+use Rattle.flume_core.proofs.InvariantLemmas.{still}
 use Rattle.flume_history.specs.Equal.{equal_replies, Equals}
 use Rattle.flume_history.specs.HandedIn.{handed_in}
-use Rattle.flume_history.proofs.Follows.{want_stays, no_other_want}
-use Rattle.flume_history.proofs.Wanting.{want_allowed}
+use Rattle.flume_history.proofs.FollowLemmas.{want_stays, no_other_want}
+use Rattle.flume_history.proofs.WantingLemmas.{want_allowed}
 use Rattle.flume_history.proofs.follow.refused.Goals as goal
 use Rattle.flume_history.proofs.follow.refused.Goals.{else-no_memory_is_lawful-via-then-no_memory_is_lawful+else-eq, else-no_memory_is_lawful-via-else-no_memory_is_lawful}
 

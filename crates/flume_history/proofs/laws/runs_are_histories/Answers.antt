@@ -3,7 +3,7 @@ use Rattle.std.proofs.Common.{sym, subst}
 use Rattle.std.proofs.lemmas.List.{reverse-reverse}
 use Rattle.flume_history.specs.Equal.{Equals}
 use Rattle.flume_history.specs.Histories.{IsSaidOf}
-use Rattle.flume_history.proofs.Equals.{told_by_itself}
+use Rattle.flume_history.proofs.EqualityLemmas.{told_by_itself}
 use Rattle.flume_history.proofs.laws.runs_are_histories.Goals as goal
 
 pub returns : goal.returns

@@ -3,12 +3,12 @@
 use Rattle.std.proofs.Common.{◌≡◌, refl, ◌∙◌, ap, rules, ◌++◌, codes}
 use Rattle.flume_model.specs.declared.step.Reply.{Reply}
 use Rattle.flume_model.specs.declared.step.Reply.TheVariants.{NoMemory}
-use Rattle.flume_core.proofs.Keeping.{still}
+use Rattle.flume_core.proofs.InvariantLemmas.{still}
 use Rattle.flume_script.specs.ReplyTexts.{reply_text}
 use Rattle.flume_history.specs.HandedIn.{handed_in}
-use Rattle.flume_history.proofs.Follows.{not_want, want_stays}
-use Rattle.flume_history.proofs.Lawful.{shows_own, shows_both}
-use Rattle.flume_history.proofs.Wanting.{want_allowed}
+use Rattle.flume_history.proofs.FollowLemmas.{not_want, want_stays}
+use Rattle.flume_history.proofs.LawfulLemmas.{shows_own, shows_both}
+use Rattle.flume_history.proofs.WantingLemmas.{want_allowed}
 use Rattle.flume_history.proofs.script.expected_text.Goals.{else-may_refuse-via-then-may_refuse+else-eq, else-may_refuse-via-else-may_refuse}
 use Rattle.flume_history.proofs.script.expected_text.Given as given
 use Rattle.flume_history.proofs.script.expected_text.Goals as goal

@@ -1,21 +1,13 @@
 -- Pair by pair: the log of the channel's own replies grows as the pairs are followed.
-use Rattle.std.proofs.Common.{◌≡◌, ℕ, ◌+◌, ◌<◌, inl, inr, Bor, List, [], ◌∷◌, refl, sym, subst, take, reverse, length, rules, arith}
+use Rattle.std.proofs.Common.{◌≡◌, ◌+◌, inl, inr, ◌∷◌, refl, sym, subst, take, reverse, rules, arith}
 use Rattle.std.proofs.Math.ListN.{get_or}
 use Rattle.std.proofs.lemmas.List.{take_all}
-use Rattle.flume_model.specs.declared.step.Step.{Step}
-use Rattle.flume_model.specs.declared.step.Step.TheVariants.{TrySend}
 use Rattle.flume_model.specs.Log.{opens}
 use Rattle.flume_history.specs.Histories.{IsSaidOf}
-use Rattle.flume_history.specs.HistoryText.{Says, break_text}
-use Rattle.flume_history.specs.HistoryReading.{pairs_of}
-use Rattle.flume_history.proofs.Follows.{with_next}
-use Rattle.flume_history.proofs.Judged.{pair_at, told_break}
-use Rattle.flume_history.proofs.ReadPairs.{pairs_length}
+use Rattle.flume_history.specs.HistoryText.{Pair, Says, break_text}
+use Rattle.flume_history.proofs.FollowLemmas.{with_next}
+use Rattle.flume_history.proofs.JudgeLemmas.{breaks_there}
 use Rattle.flume_history.proofs.script.judge.Goals as goal
-
--- what a slice of pairs is read as past its end
-abbrev past_end : Step ℕ × Bor (List ℕ)
-past_end = (TrySend 0, record { ref_ptr = (0, 0); now = [] })
 
 pub returns-in-Some : goal.returns-in-Some
 returns-in-Some g c = record {
@@ -23,12 +15,11 @@ returns-in-Some g c = record {
       let so_far = c.loop-place.invariant.followed in
       let pairs = c.args.pairs.now in
       let place = c.loop-place.place in
-      let p : Step ℕ × Bor (List ℕ) = get_or pairs place past_end in
-      let within : place < length pairs = search rules in
-      let inside : place < length (pairs_of pairs) = subst (λ n. place < n) (sym (pairs_length pairs)) within in
-      let is_text : c.in_ok-text.text.items ≡ break_text (place + 2) p.1.now c.in-Some.expected.items = search rules in
+      let p : Pair = (c.pair.inside.step, c.pair.inside.said.now) in
+      let at : p ≡ get_or pairs place p = search rules in
+      let is_text : c.in_ok-text.text.items ≡ break_text (place + 2) p.1 c.in-Some.expected.items = search rules in
       let shows = rw c.in-Some.is at c.in_ok-expected.ensures.not_lawful in
-      inr (inl (told_break input c.args.capacity (pairs_of pairs) place p.0 p.1.now reads inside (pair_at pairs place past_end within)
+      inr (inl (breaks_there input c.args.capacity pairs place p.0 p.1 reads (search rules) at
       so_far.0 so_far.1.run so_far.2 c.in-Some.expected.items
       (shows (opens c.args.capacity 1) so_far.0 so_far.1)
       c.in_ok-text.text.items 1 is_text refl));
@@ -39,10 +30,9 @@ loop-place-preserved g c =
     let so_far = c.loop-place.invariant.followed in
     let pairs = c.args.pairs.now in
     let place = c.loop-place.place in
-    let p : Step ℕ × Bor (List ℕ) = get_or pairs place past_end in
-    let within : place < length pairs = search rules in
-    let inside : place < length (pairs_of pairs) = subst (λ n. place < n) (sym (pairs_length pairs)) within in
-    let next = with_next (pairs_of pairs) place (p.0, p.1.now) inside (pair_at pairs place past_end within) in
+    let p : Pair = (c.pair.inside.step, c.pair.inside.said.now) in
+    let at : p ≡ get_or pairs place p = search rules in
+    let next = with_next pairs place p (search rules) at in
     let follows = rw c.in_default.is at c.in_ok-expected.ensures.lawful in
     let on = follows (opens c.args.capacity 1) so_far.0 so_far.1 in
     record {
@@ -57,8 +47,8 @@ pub returns : goal.returns
 returns g c = record {
   judges = λ input reads.
       let so_far = c.loop-place.invariant.followed in
-      let pairs = pairs_of c.args.pairs.now in
-      let all : take c.loop-place.place pairs ≡ pairs = take_all c.loop-place.place pairs (omega (arith, pairs_length c.args.pairs.now)) in
+      let pairs = c.args.pairs.now in
+      let all : take c.loop-place.place pairs ≡ pairs = take_all c.loop-place.place pairs (omega arith) in
       inl (record {
         capacity = c.args.capacity;
         pairs = pairs;

@@ -1,4 +1,4 @@
-use Rattle.flume_model.proofs.order.TicketLaws.{live_are_kept, accepted_below_blocked}
+use Rattle.flume_model.proofs.order.TicketLemmas.{live_are_kept, accepted_below_blocked}
 use Rattle.flume_model.proofs.laws.accepted_tickets_are_below_blocked_ones.Goals as goal
 
 pub returns : goal.returns

@@ -1,4 +1,4 @@
-use Rattle.flume_model.proofs.order.Runs.{blocked_at_capacity}
+use Rattle.flume_model.proofs.order.RunLemmas.{blocked_at_capacity}
 use Rattle.flume_model.proofs.laws.senders_block_only_at_capacity.Goals as goal
 
 pub returns : goal.returns

@@ -1,4 +1,4 @@
-use Rattle.flume_model.proofs.order.Runs.{tickets_rise}
+use Rattle.flume_model.proofs.order.RunLemmas.{tickets_rise}
 use Rattle.flume_model.proofs.laws.tickets_rise.Goals as goal
 
 pub returns : goal.returns

@@ -1,4 +1,4 @@
-use Rattle.flume_model.proofs.Beginnings.{throughout}
+use Rattle.flume_model.proofs.BeginningLemmas.{throughout}
 use Rattle.flume_model.proofs.laws.what_holds_held_throughout.Goals as goal
 
 pub returns : goal.returns

@@ -3,7 +3,7 @@ use Rattle.std.proofs.Common.{Some, codes, subst}
 use Rattle.std.proofs.lemmas.Bool.Decides.{Decides-eqb}
 use Rattle.std.proofs.lemmas.Slice.Eq.{strip_prefix_is}
 use Rattle.flume_recording.specs.Texts.{IsAnswerText}
-use Rattle.flume_recording.proofs.AnswerWords.{drained_answer}
+use Rattle.flume_recording.proofs.AnswerWordLemmas.{drained_answer}
 use Rattle.flume_recording.proofs.answers.answer_of.Goals as goal
 
 pub returns-in-None : goal.returns-in-None

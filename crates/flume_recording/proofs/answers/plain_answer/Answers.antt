@@ -1,10 +1,11 @@
 -- A word that is no plain answer's is no answer, if it is no list and no number.
 use Rattle.std.proofs.Common.{◌≡◌, true, false, Some, None, codes, sym, rules}
 use Rattle.std.specs.Fmt.{decimal}
-use Rattle.flume_concurrent.specs.declared.call.Answer.TheVariants.{Sent, Full, Got, Empty, Disconnected, Timeout, NoMemory, Dropped, Drained}
+use Rattle.flume_concurrent.specs.declared.call.Answer.TheVariants.{Sent, Full, Got, Empty, Disconnected, Timeout, NoMemory, Dropped}
+use Rattle.flume_concurrent.specs.declared.call.Answer.TheVariants.{Drained}
 use Rattle.flume_concurrent.specs.declared.call.Answer.TheVariants.{Done, NoEnd, CountFull, Number, Truth, Capacity, Unbounded}
 use Rattle.flume_recording.specs.Texts.{IsAnswerText}
-use Rattle.flume_recording.proofs.Cuts.{has_byte}
+use Rattle.flume_recording.proofs.CutLemmas.{has_byte}
 use Rattle.flume_recording.proofs.answers.plain_answer.Goals as goal
 
 pub returns-else-is_text-14-clause-value : goal.returns-else-is_text-14-clause-value

@@ -1,7 +1,7 @@
 -- What follows the first space of an answer that is no list is the message that was received.
 use Rattle.std.proofs.Common.{◌≡◌, codes, subst, ◌∙◌, rules}
 use Rattle.flume_recording.specs.Texts.{IsAnswerText}
-use Rattle.flume_recording.proofs.AnswerWords.{cut_answer}
+use Rattle.flume_recording.proofs.AnswerWordLemmas.{cut_answer}
 use Rattle.flume_recording.proofs.answers.short_answer.Goals as goal
 
 pub returns-then-not-is_text : goal.returns-then-not-is_text

@@ -3,7 +3,7 @@ use Rattle.std.proofs.Common.{◌∷◌, ◌∙◌, ap, ◌++◌, string_bytes, 
 use Rattle.std.specs.Fmt.{decimal}
 use Rattle.std.proofs.lemmas.List.{append_assoc}
 use Rattle.flume_script.specs.ReplyTexts.{spaced}
-use Rattle.flume_script.proofs.ScriptReplies.{spaced_more}
+use Rattle.flume_script.proofs.ScriptReplyLemmas.{spaced_more}
 use Rattle.flume_recording.proofs.answers.write_drained.Goals as goal
 
 pub loop-message-preserved : goal.loop-message-preserved

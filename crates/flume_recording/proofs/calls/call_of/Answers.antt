@@ -1,7 +1,7 @@
 -- What follows the first space of a call is its number.
 use Rattle.std.proofs.Common.{sym, subst, ◌∙◌}
 use Rattle.flume_recording.specs.Texts.{call_word, call_number, FitsIfAny}
-use Rattle.flume_recording.proofs.CallWords.{word_without, cut_worded}
+use Rattle.flume_recording.proofs.CallWordLemmas.{word_without, cut_worded}
 use Rattle.flume_recording.proofs.calls.call_of.Goals as goal
 
 pub returns-in_err-number_of-in-Some : goal.returns-in_err-number_of-in-Some

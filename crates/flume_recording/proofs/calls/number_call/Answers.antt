@@ -3,7 +3,7 @@ use Rattle.std.proofs.Common.{◌≡◌, Some, codes, rules}
 use Rattle.std.specs.Fmt.{decimal}
 use Rattle.flume_concurrent.specs.declared.call.Call.TheVariants.{Send, SendTimeout, SendAsync, TrySend, SetCapacity}
 use Rattle.flume_recording.specs.Texts.{call_word, call_number}
-use Rattle.flume_recording.proofs.CallWords.{word_without, cut_worded}
+use Rattle.flume_recording.proofs.CallWordLemmas.{word_without, cut_worded}
 use Rattle.flume_recording.proofs.calls.number_call.Goals as goal
 
 pub returns-else-is_text-5 : goal.returns-else-is_text-5

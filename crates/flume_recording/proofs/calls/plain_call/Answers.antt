@@ -1,11 +1,13 @@
 -- A word that is no plain call's is no call, since a call with a number has a space.
 use Rattle.std.proofs.Common.{◌≡◌, codes, sym, rules}
 use Rattle.std.specs.Fmt.{decimal}
-use Rattle.flume_concurrent.specs.declared.call.Call.TheVariants.{Send, SendTimeout, SendAsync, TrySend, SetCapacity, Recv, RecvTimeout, RecvAsync, TryRecv}
-use Rattle.flume_concurrent.specs.declared.call.Call.TheVariants.{Drain, CloneSender, CloneReceiver, DropSender, DropReceiver, Len, IsEmpty, IsFull}
+use Rattle.flume_concurrent.specs.declared.call.Call.TheVariants.{Send, SendTimeout, SendAsync, TrySend, SetCapacity, Recv, RecvTimeout}
+use Rattle.flume_concurrent.specs.declared.call.Call.TheVariants.{RecvAsync, TryRecv}
+use Rattle.flume_concurrent.specs.declared.call.Call.TheVariants.{Drain, CloneSender, CloneReceiver, DropSender, DropReceiver, Len, IsEmpty}
+use Rattle.flume_concurrent.specs.declared.call.Call.TheVariants.{IsFull}
 use Rattle.flume_concurrent.specs.declared.call.Call.TheVariants.{Capacity, SenderCount, ReceiverCount, IsDisconnected}
 use Rattle.flume_recording.specs.Texts.{IsCallText}
-use Rattle.flume_recording.proofs.Cuts.{has_byte}
+use Rattle.flume_recording.proofs.CutLemmas.{has_byte}
 use Rattle.flume_recording.proofs.calls.plain_call.Goals as goal
 
 pub returns-else-is_text-16 : goal.returns-else-is_text-16

@@ -1,6 +1,6 @@
 -- A printed number has no zero in front, and digits without one are printed so.
 use Rattle.std.proofs.Common.{rules}
-use Rattle.flume_recording.proofs.Digits.{no_zero, printed}
+use Rattle.flume_recording.proofs.DigitLemmas.{no_zero, printed}
 use Rattle.flume_recording.proofs.numbers.number_of.Goals.{else-text-gt1-via-then-text-gt1+else-text-eq48, else-text-gt1-via-else-text-gt1}
 use Rattle.flume_recording.proofs.numbers.number_of.Goals as goal
 

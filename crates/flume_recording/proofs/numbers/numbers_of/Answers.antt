@@ -1,6 +1,6 @@
 use Rattle.std.proofs.Common.{◌≡◌, ◌∷◌, ◌++◌, [], ap, subst, sym, rules}
 use Rattle.flume_recording.specs.Texts.{behind_space}
-use Rattle.flume_recording.proofs.SpacedNumbers.{ReadNumbers, one_more, no_number}
+use Rattle.flume_recording.proofs.SpacedNumberLemmas.{ReadNumbers, one_more, no_number}
 use Rattle.flume_recording.proofs.numbers.numbers_of.Goals as goal
 
 pub returns-in_default-number_of : goal.returns-in_default-number_of

@@ -1,6 +1,6 @@
 use Rattle.std.proofs.Common.{length}
 use Rattle.flume_recording.specs.Texts.{behind_space}
-use Rattle.flume_recording.proofs.SpacedNumbers.{ReadNumbers}
+use Rattle.flume_recording.proofs.SpacedNumberLemmas.{ReadNumbers}
 use Rattle.flume_recording.proofs.numbers.numbers_of.Given as goal
 
 -- the numbers so far are the list

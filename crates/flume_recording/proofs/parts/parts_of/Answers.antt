@@ -2,7 +2,7 @@
 use Rattle.std.proofs.Common.{◌≡◌, ◌<◌, length, Some, None, codes, rules}
 use Rattle.std.proofs.lemmas.Bool.Decides.{Decides-eqb}
 use Rattle.std.proofs.lemmas.Slice.Eq.{strip_prefix_is}
-use Rattle.flume_recording.proofs.LineParts.{without_space, misplaced_colon, colon, no_arrow, arrow}
+use Rattle.flume_recording.proofs.LinePartLemmas.{without_space, misplaced_colon, colon, no_arrow, arrow}
 use Rattle.flume_recording.proofs.parts.parts_of.Goals.{then-is_empty-via-then-is_empty, then-is_empty-via-else-is_empty+then-not-is_empty}
 use Rattle.flume_recording.proofs.parts.parts_of.Goals as goal
 

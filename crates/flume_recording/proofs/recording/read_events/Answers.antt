@@ -1,7 +1,7 @@
 use Rattle.std.proofs.Common.{◌≡◌, ◌++◌, ◌∷◌, [], ap, rules}
 use Rattle.flume_recording.specs.Recordings.{names_of}
 use Rattle.flume_recording.specs.NextEvents.{asking_in}
-use Rattle.flume_recording.proofs.ReadEvents.{none_read, one_more, up_to}
+use Rattle.flume_recording.proofs.ReadEventLemmas.{none_read, one_more, up_to}
 use Rattle.flume_recording.proofs.recording.read_events.Goals as goal
 
 pub loop-line-init : goal.loop-line-init

@@ -1,7 +1,7 @@
 use Rattle.std.proofs.Common.{length}
 use Rattle.flume_recording.specs.Recordings.{names_of}
 use Rattle.flume_recording.specs.NextEvents.{asking_in}
-use Rattle.flume_recording.proofs.ReadEvents.{ReadEvents}
+use Rattle.flume_recording.proofs.ReadEventLemmas.{ReadEvents}
 use Rattle.flume_recording.proofs.recording.read_events.Given as goal
 
 -- the lines so far are the events

@@ -3,7 +3,7 @@ use Rattle.std.proofs.Common.{◌∙◌, sym, below_more, Bor, List, ℕ, []}
 use Rattle.std.proofs.lemmas.Bool.{false≢true}
 use Rattle.std.proofs.lemmas.Bool.Decides.{Decides-eqb}
 use Rattle.std.proofs.lemmas.Slice.Eq.{slice_eq-Decides}
-use Rattle.flume_recording.proofs.ThreadNames.{name_at}
+use Rattle.flume_recording.proofs.ThreadNameLemmas.{name_at}
 use Rattle.flume_recording.proofs.threads.place_of.Goals as goal
 
 -- what a reference is if there is none

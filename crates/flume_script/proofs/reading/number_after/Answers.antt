@@ -1,7 +1,7 @@
 use Rattle.std.proofs.Common.{Some, None}
 use Rattle.std.proofs.lemmas.Bool.Decides.{Decides-eqb}
 use Rattle.std.proofs.lemmas.Slice.Eq.{strip_prefix_is}
-use Rattle.flume_script.proofs.ScriptNumbers.{call_number}
+use Rattle.flume_script.proofs.ScriptNumberLemmas.{call_number}
 use Rattle.flume_script.proofs.reading.number_after.Goals as goal
 
 pub returns-in_err-digits : goal.returns-in_err-digits

@@ -1,7 +1,7 @@
 -- What follows the first space of a step's line is a number of 64 bits, or the name of a kind.
 use Rattle.std.proofs.Common.{◌≡◌, codes, rules}
 use Rattle.flume_model.specs.declared.step.Step.TheVariants.{TrySend, Send, PollSend, WithdrawSend, Recv, Poll, Withdraw, SetCapacity}
-use Rattle.flume_script.proofs.ScriptWords.{IsParted, parted}
+use Rattle.flume_script.proofs.ScriptWordLemmas.{IsParted, parted}
 use Rattle.flume_script.proofs.reading.step_of.Goals as goal
 
 pub returns-in_err-number-in-Some-2 : goal.returns-in_err-number-in-Some-2

@@ -2,7 +2,7 @@
 use Rattle.std.proofs.Common.{◌≡◌, codes, subst, rules}
 use Rattle.std.specs.Str.Parse.{IsNumeral}
 use Rattle.flume_model.specs.declared.step.Step.TheVariants.{TrySend, Send, PollSend, WithdrawSend, Recv, Poll, Withdraw, SetCapacity}
-use Rattle.flume_script.proofs.ScriptWords.{IsParted, no_numeral, parted}
+use Rattle.flume_script.proofs.ScriptWordLemmas.{IsParted, no_numeral, parted}
 use Rattle.flume_script.proofs.reading.step_with_number.Goals as goal
 
 pub returns-else-is_text-7 : goal.returns-else-is_text-7

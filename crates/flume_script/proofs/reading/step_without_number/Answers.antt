@@ -4,7 +4,7 @@ use Rattle.flume_model.specs.declared.step.Step.TheVariants.{TrySend, Send, Poll
 use Rattle.flume_model.specs.declared.step.Step.TheVariants.{CloneSender, CloneReceiver, DropSender, DropReceiver, Len, IsEmpty, IsFull, SetCapacity}
 use Rattle.flume_model.specs.declared.step.Step.TheVariants.{Capacity, SenderCount, ReceiverCount, IsDisconnected}
 use Rattle.flume_script.specs.Script.{IsStepLine}
-use Rattle.flume_script.proofs.ScriptWords.{no_call, no_recv}
+use Rattle.flume_script.proofs.ScriptWordLemmas.{no_call, no_recv}
 use Rattle.flume_script.proofs.reading.step_without_number.Goals as goal
 
 pub returns-else-is_text-13 : goal.returns-else-is_text-13

@@ -1,7 +1,7 @@
 -- Each pair adds a number or none, and the numbers that lack lose the first one or none.
 use Rattle.std.proofs.Common.{◌≡◌, inl, inr, arith}
 use Rattle.std.proofs.lemmas.Bool.{lt-ltb, ltb-true}
-use Rattle.mailbox.proofs.Counting.{after_next, after_another, not_all, at_end}
+use Rattle.mailbox.proofs.CountingLemmas.{after_next, after_another, not_all, at_end}
 use Rattle.mailbox.proofs.in_order.counts_up.Goals as goal
 use Rattle.mailbox.proofs.in_order.counts_up.Goals.{then-next-gt-MESSAGES-via-then-next-gt-MESSAGES}
 use Rattle.mailbox.proofs.in_order.counts_up.Goals.{then-next-gt-MESSAGES-via-else-next-gt-MESSAGES+then-number-next}

@@ -16,14 +16,14 @@ loop-answer-preserved g c =
     record {
       jobs = c.in_ok-put.ensures.jobs ∙ now.jobs;
       filled = one_more g.I.Iterator.next_gives (λ answer. (answer.number, answer.job)) c.args.jobs.now c.loop-answer.slots.values.items c.put.new.self.values.items c.loop-answer.yielded
-          c.in-Some.answer now.filled is c.in_ok-put.ensures.placed;
+          c.in-Some.answer now.filled is c.in_ok-put.ensures.places;
     }
 
 pub returns-in_err-put-clause-error : goal.returns-in_err-put-clause-error
 returns-in_err-put-clause-error g c =
     let now = c.loop-answer.invariant in
     let why = subst (λ jobs. IsRefused jobs c.loop-answer.slots.values.items (c.in-Some.answer.number, c.in-Some.answer.job) c.in_err-put.field-0.0)
-    now.jobs c.in_err-put.ensures.refused in
+    now.jobs c.in_err-put.ensures.is_refused in
     let yielded = rw c.into_iter-answer-iterator.ensures.into_iter_gives at c.loop-answer.yielded_by in
     error_is c.from_residual-in_err-put.result _ _
     (refused g.I.Iterator.next_gives (λ answer. (answer.number, answer.job)) c.args.jobs.now c.loop-answer.slots.values.items c.args.answers c.loop-answer.answer-iterator c.next.new.self c.loop-answer.yielded
@@ -36,7 +36,7 @@ returns-clause-error g c =
     let yielded = rw c.into_iter-answer-iterator.ensures.into_iter_gives at c.loop-answer.yielded_by in
     IfErr-weaker c.in_order.result _ _ (λ error why. lacking g.I.Iterator.next_gives (λ answer. (answer.number, answer.job)) c.args.jobs.now c.loop-answer.slots.values.items c.args.answers c.loop-answer.yielded error
     (c.next.new.self, (c.loop-answer.answer-iterator, yielded, c.in-None.ensures.steps)) now.filled
-    (subst (λ jobs. Lacks jobs c.loop-answer.slots.values.items error) now.jobs why)) c.in_order.ensures.missing
+    (subst (λ jobs. Lacks jobs c.loop-answer.slots.values.items error) now.jobs why)) c.in_order.ensures.lacks
 
 pub returns-in_err-put-clause-only_no_memory : goal.returns-in_err-put-clause-only_no_memory
 returns-in_err-put-clause-only_no_memory g c all gives complete =

@@ -8,7 +8,7 @@ pub returns-in-Settled : goal.returns-in-Settled
 returns-in-Settled g c =
     let all = c.close-closed.ensures.settled.0 c.in-Settled.is in
     record {
-      settled = all.1;
+      is_settled = all.1;
       same_length = sym (ones c.close-closed.result.1.history) ∙ c.close-closed.ensures.weights all.0
           ∙ all_ones c.args.seats.items;
     }

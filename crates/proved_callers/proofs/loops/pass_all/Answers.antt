@@ -14,11 +14,11 @@ loop-number-preserved g c = record {
       let so_far = c.loop-number.invariant.reachable o log h in
       let number = c.loop-number.number in
       let offered = c.try_send.result in
-      let received = c.received-sum.ensures.step in (
+      let received = c.receive_one-sum.ensures.step in (
         (TryRecv, received.0) ∷ (TrySend number, offered) ∷ so_far.0,
         passes_next number (map (λ pair. pair.0) so_far.0) so_far.1,
         received.1 o _ (c.try_send.ensures.step o _ so_far.2),
-        sum_next so_far.0 number offered received.0 c.received-sum.result c.loop-number.sum _
+        sum_next so_far.0 number offered received.0 c.receive_one-sum.result c.loop-number.sum _
             c.try_send.ensures.possible_reply received.2 so_far.3 refl,
       );
 }

@@ -1,6 +1,6 @@
 -- The front was taken, since the queue wasn't empty.
 use Rattle.std.proofs.Common.{rules}
-use Rattle.scheduler.proofs.Taking.{front_goes}
+use Rattle.scheduler.proofs.TakingLemmas.{front_goes}
 use Rattle.scheduler.proofs.run_queue.take.Goals as goal
 
 pub returns-in-Got-clause-some : goal.returns-in-Got-clause-some

@@ -14,4 +14,4 @@ pub returns : goal.returns
 returns g c =
     let run = rw c.new-gate.ensures.deadline at c.waiting_receive.ensures.run in
     let whole = run Never (record { same = refl; answers = tt; not_refused = tt; made = c.requires.none }) in
-    record { made = subst (λ ended. Receives _ _ ended) c.receive_answer.ensures.ended (_, whole) }
+    record { made = subst (λ ended. Receives _ _ ended) c.receive_answer.ensures.outcome (_, whole) }

@@ -6,15 +6,15 @@ use Rattle.flume.proofs.ManyReceiveStepLemmas.{many_from}
 use Rattle.flume.proofs.receiver.Receiver.recv_many.Goals as goal
 
 pub returns-clause-appended : goal.returns-clause-appended
-returns-clause-appended g c = waited_came c.args.most c.args.into.now.items _ c.recv_many_until.result c.receive_answer.result c.recv_many_until.ensures.appended c.receive_answer.ensures.ended
+returns-clause-appended g c = waited_came c.args.most c.args.into.now.items _ c.recv_many_until.result c.receive_answer.result c.recv_many_until.ensures.appended c.receive_answer.ensures.outcome
 
 pub returns-clause-made : goal.returns-clause-made
 returns-clause-made g c some =
-    many_from refl c.receive_answer.ensures.ended (c.recv_many_until.ensures.made some)
+    many_from refl c.receive_answer.ensures.outcome (c.recv_many_until.ensures.made some)
 
 pub returns-clause-none : goal.returns-clause-none
 returns-clause-none g c none =
-    waited_none 0 c.recv_many_until.result c.receive_answer.result c.receive_answer.ensures.ended (c.recv_many_until.ensures.none none)
+    waited_none 0 c.recv_many_until.result c.receive_answer.result c.receive_answer.ensures.outcome (c.recv_many_until.ensures.none none)
 
 pub returns-clause-no_memory : goal.returns-clause-no_memory
-returns-clause-no_memory g c said = c.recv_many_until.ensures.no_memory (c.receive_answer.ensures.ended ∙ ap receive_as_timed said)
+returns-clause-no_memory g c said = c.recv_many_until.ensures.no_memory (c.receive_answer.ensures.outcome ∙ ap receive_as_timed said)

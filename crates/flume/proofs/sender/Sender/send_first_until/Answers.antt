@@ -15,27 +15,27 @@ returns-in-Err-Timeout-clause-in_time g c = λ never rest said.
     let made = rw c.in-Err-Timeout.field-0-is at c.in-Err-Timeout.ensures.made in
     send_in_time made.1 never c.in-Err-Timeout.back refl
 
-pub returns-in-Ok-clause-taken_in : goal.returns-in-Ok-clause-taken_in
-returns-in-Ok-clause-taken_in g c =
+pub returns-in-Ok-clause-ok : goal.returns-in-Ok-clause-ok
+returns-in-Ok-clause-ok g c =
     let is : c.args.messages.items ≡ c.in-Some.first ∷ c.pop_front.new.self.items = search rules in
     first_taken c.send_to_full_until.ensures.made is c.in-Ok.is
 
-pub returns-in-Err-Timeout-clause-comes_back : goal.returns-in-Err-Timeout-clause-comes_back
-returns-in-Err-Timeout-clause-comes_back g c =
+pub returns-in-Err-Timeout-clause-error : goal.returns-in-Err-Timeout-clause-error
+returns-in-Err-Timeout-clause-error g c =
     let is : c.args.messages.items ≡ c.in-Some.first ∷ c.pop_front.new.self.items = search rules in
     let over = c.in-Err-Timeout.is ∙ ap (λ error. Err error) c.in-Err-Timeout.field-0-is in
     first_back c.send_to_full_until.ensures.made is over
     (ap (λ list. Timeout list) (sym (c.into_vec.ensures.items ∙ c.push_front_reserved.ensures.items)))
 
-pub returns-in-Err-Disconnected-clause-comes_back : goal.returns-in-Err-Disconnected-clause-comes_back
-returns-in-Err-Disconnected-clause-comes_back g c =
+pub returns-in-Err-Disconnected-clause-error : goal.returns-in-Err-Disconnected-clause-error
+returns-in-Err-Disconnected-clause-error g c =
     let is : c.args.messages.items ≡ c.in-Some.first ∷ c.pop_front.new.self.items = search rules in
     let over = c.in-Err-Disconnected.is ∙ ap (λ error. Err error) c.in-Err-Disconnected.field-0-is in
     first_back c.send_to_full_until.ensures.made is over
     (ap (λ list. Disconnected list) (sym (c.into_vec-in-Err-Disconnected.ensures.items ∙ c.push_front_reserved-in-Err-Disconnected.ensures.items)))
 
-pub returns-in-Err-NoMemory-clause-comes_back : goal.returns-in-Err-NoMemory-clause-comes_back
-returns-in-Err-NoMemory-clause-comes_back g c =
+pub returns-in-Err-NoMemory-clause-error : goal.returns-in-Err-NoMemory-clause-error
+returns-in-Err-NoMemory-clause-error g c =
     let is : c.args.messages.items ≡ c.in-Some.first ∷ c.pop_front.new.self.items = search rules in
     let over = c.in-Err-NoMemory.is ∙ ap (λ error. Err error) c.in-Err-NoMemory.field-0-is in
     first_back c.send_to_full_until.ensures.made is over

@@ -6,13 +6,13 @@ use Rattle.flume.proofs.sender.Sender.send_many.Goals as goal
 
 pub returns-clause-made : goal.returns-clause-made
 returns-clause-made g c =
-    subst (λ ended. SendsManyUpTo g.row.A.Denot _ c.args.messages.items (result_list vec_items ended)) c.send_answer.ensures.ended
+    subst (λ ended. SendsManyUpTo g.row.A.Denot _ c.args.messages.items (result_list vec_items ended)) c.send_answer.ensures.outcome
     c.send_many_until.ensures.made
 
 pub returns-clause-disconnected : goal.returns-clause-disconnected
 returns-clause-disconnected g c = λ rest said.
-    c.send_many_until.ensures.disconnected rest (c.send_answer.ensures.ended ∙ ap send_as_timed said)
+    c.send_many_until.ensures.disconnected rest (c.send_answer.ensures.outcome ∙ ap send_as_timed said)
 
 pub returns-clause-no_memory : goal.returns-clause-no_memory
 returns-clause-no_memory g c = λ rest said.
-    c.send_many_until.ensures.no_memory rest (c.send_answer.ensures.ended ∙ ap send_as_timed said)
+    c.send_many_until.ensures.no_memory rest (c.send_answer.ensures.outcome ∙ ap send_as_timed said)

@@ -54,7 +54,7 @@ loop-deadline-preserved g c =
     record {
       last = behind_first _ _ _ others.0 last others.1;
       goes_on = λ result rest.
-          c.loop-deadline.invariant.goes_on result (GoesOn (batch_made done refl refl) c.in-Ok-send_first_until.ensures.taken_in rest);
+          c.loop-deadline.invariant.goes_on result (GoesOn (batch_made done refl refl) c.in-Ok-send_first_until.ensures.ok rest);
     }
 
 pub returns-in-Ok-clause-made : goal.returns-in-Ok-clause-made
@@ -63,7 +63,7 @@ returns-in-Ok-clause-made g c = c.loop-deadline.invariant.goes_on _ (AllTakenIn 
 pub returns-in-Err-clause-made : goal.returns-in-Err-clause-made
 returns-in-Err-clause-made g c =
     let done = rw c.in-Err-Full.field-0-is at c.in-Err-Full.ensures.made in
-    c.loop-deadline.invariant.goes_on _ (FirstComesBack (batch_made done refl refl) c.in-Err.ensures.comes_back)
+    c.loop-deadline.invariant.goes_on _ (FirstComesBack (batch_made done refl refl) c.in-Err.ensures.error)
 
 pub returns-in-Err-Disconnected-clause-made : goal.returns-in-Err-Disconnected-clause-made
 returns-in-Err-Disconnected-clause-made g c =

@@ -10,8 +10,8 @@ send_answer-requires g c = record { in_time = send_in_time c.send_to_full_until.
 
 pub returns-clause-made : goal.returns-clause-made
 returns-clause-made g c =
-    subst (λ ended. Sends _ _ c.args.message ended) c.send_answer.ensures.ended c.send_to_full_until.ensures.made
+    subst (λ ended. Sends _ _ c.args.message ended) c.send_answer.ensures.outcome c.send_to_full_until.ensures.made
 
 pub returns-clause-no_memory : goal.returns-clause-no_memory
 returns-clause-no_memory g c = λ back said.
-    c.send_to_full_until.ensures.no_memory back (c.send_answer.ensures.ended ∙ ap send_as_timed said)
+    c.send_to_full_until.ensures.no_memory back (c.send_answer.ensures.outcome ∙ ap send_as_timed said)

@@ -1,11 +1,11 @@
 -- A run led to the channel that the turn was made of.
 use Rattle.flume.proofs.shared.Shared.call_step.Goals as goal
 
-pub make_quietly-requires-clause-one_step : goal.make_quietly-requires-clause-one_step
-make_quietly-requires-clause-one_step g c = λ new answer does. c.requires.one_step _ new answer does
+pub make_without_bell-requires-clause-one_step : goal.make_without_bell-requires-clause-one_step
+make_without_bell-requires-clause-one_step g c = λ new answer does. c.requires.one_step _ new answer does
 
-pub returns-then-is_quiet-clause-made : goal.returns-then-is_quiet-clause-made
-returns-then-is_quiet-clause-made g c =
+pub returns-then-no_call_waits-clause-made : goal.returns-then-no_call_waits-clause-made
+returns-then-no_call_waits-clause-made g c =
     let reachable = c.facts.ensures.reachable in
     record {
       opening = reachable.0;
@@ -13,7 +13,7 @@ returns-then-is_quiet-clause-made g c =
       old = _;
       new = _;
       represents = reachable.2;
-      turn = c.make_quietly.ensures.does;
+      turn = c.make_without_bell.ensures.does;
     }
 
 pub returns-clause-made : goal.returns-clause-made

@@ -9,7 +9,7 @@ use Rattle.flume_calls.proofs.calls.receive_many.take_each.Goals as goal
 pub loop-taken-init : goal.loop-taken-init
 loop-taken-init g c = record {
   took = record { taken = []; reachable = NoSteps; items = sym (append-nil _); number = refl };
-  left = omega arith;
+  remaining = omega arith;
   len = omega arith;
   capacity = refl;
 }
@@ -28,7 +28,7 @@ loop-taken-preserved g c =
     let less = one_less c.loop-taken.chan c.try_recv.new.self some c.try_recv.ensures.got in
     record {
       took = takes_one _ {after = c.push_reserved.new.self.items} c.in-Got.message c.loop-taken.invariant.took made c.push_reserved.ensures.items;
-      left = omega arith;
+      remaining = omega arith;
       len = omega arith;
       capacity = cc;
     }

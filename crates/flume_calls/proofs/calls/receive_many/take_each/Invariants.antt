@@ -7,7 +7,7 @@ use Rattle.flume_calls.proofs.calls.receive_many.take_each.Given as goal
 abbrev pub invariant-loop-taken : goal.invariant-loop-taken
 invariant-loop-taken g l = record {
   took : Takes g.row.A.Denot l.fn.chan l.fn.into.items l._taken l.chan l.into.items;
-  left : message_count l.chan + l._taken ≡ message_count l.fn.chan;
+  remaining : message_count l.chan + l._taken ≡ message_count l.fn.chan;
   len : vec_len l.into ≡ vec_len l.fn.into + l._taken;
   capacity : vec_capacity l.into ≡ vec_capacity l.fn.into;
 }

@@ -1,6 +1,6 @@
 -- Which way each turn takes a parked receive.
 use Rattle.std.proofs.Common.{refl, inl, inr}
-use Rattle.flume_calls.specs.ReceiveGates.{Asked, Withdrawn, Late, Waited}
+use Rattle.flume_calls.specs.ReceiveGates.{Asked, Withdrawn, Expired, Waited}
 use Rattle.flume_calls.proofs.gates.receive.parked_receive.Goals as goal
 
 pub returns-in-Done-clause-run : goal.returns-in-Done-clause-run
@@ -12,7 +12,7 @@ returns-in-Refused-clause-run g c =
 
 pub returns-then-wait-clause-run : goal.returns-then-wait-clause-run
 returns-then-wait-clause-run g c =
-    c.loop.invariant.from_here _ _ (Late c.in-Park.ensures.does c.if-wait.ensures.does c.in-Done-again.ensures.does)
+    c.loop.invariant.from_here _ _ (Expired c.in-Park.ensures.does c.if-wait.ensures.does c.in-Done-again.ensures.does)
 
 pub loop-preserved : goal.loop-preserved
 loop-preserved g c = record {

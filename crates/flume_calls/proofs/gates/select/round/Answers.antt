@@ -7,7 +7,7 @@ pub loop-before-init : goal.loop-before-init
 loop-before-init g c = record {
   within = c.start-arm.ensures.within;
   waiting = rw c.start-arm.ensures.start NoTurn;
-  kept = refl;
+  setup = refl;
 }
 
 pub loop-before-preserved : goal.loop-before-preserved
@@ -16,7 +16,7 @@ loop-before-preserved g c =
       within = rw c.count-count.ensures.count at c.next_arm-arm.ensures.within;
       waiting = rw (c.next_arm-arm.ensures.next, c.count-count.ensures.count)
           (OneMore known.waiting c.in-Waits.ensures.does);
-      kept = cc;
+      setup = cc;
     }
 
 pub returns-in-Completed-clause-round : goal.returns-in-Completed-clause-round

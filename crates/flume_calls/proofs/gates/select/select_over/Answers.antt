@@ -9,20 +9,20 @@ pub returns-in-AllWait-clause-run : goal.returns-in-AllWait-clause-run
 returns-in-AllWait-clause-run g c =
     let made = c.in-Some.ensures in
     Started made.does
-    (rw made.kept at c.in-AllWait.ensures.round)
-    (rw (c.in-AllWait.ensures.kept, made.kept) at c.started_selection.ensures.run)
+    (rw made.setup at c.in-AllWait.ensures.round)
+    (rw (c.in-AllWait.ensures.setup, made.setup) at c.started_selection.ensures.run)
 
 pub returns-in-Completed-clause-run : goal.returns-in-Completed-clause-run
 returns-in-Completed-clause-run g c =
     let made = c.in-Some.ensures in
     Won made.does
-    (rw made.kept at c.in-Completed.ensures.round)
-    (rw (c.in-Completed.ensures.kept, made.kept) at c.withdraw.ensures.withdrawn.1)
+    (rw made.setup at c.in-Completed.ensures.round)
+    (rw (c.in-Completed.ensures.setup, made.setup) at c.withdraw.ensures.withdrawn.1)
 
 pub returns-clause-run : goal.returns-clause-run
 returns-clause-run g c =
     let made = c.in-Some.ensures in
     Refused made.does
-    (rw made.kept at c.in-NoMemory.ensures.round)
-    (rw (c.in-NoMemory.ensures.kept, made.kept)
+    (rw made.setup at c.in-NoMemory.ensures.round)
+    (rw (c.in-NoMemory.ensures.setup, made.setup)
     at c.withdraw-in-NoMemory.ensures.withdrawn.1)

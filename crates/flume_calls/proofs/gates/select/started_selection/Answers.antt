@@ -6,12 +6,12 @@ pub returns-in_default : goal.returns-in_default
 returns-in_default g c =
     let known = c.loop.invariant in record {
       run = known.from_here _ _ (Ended
-          (rw known.kept at c.round-polled.ensures.round)
+          (rw known.setup at c.round-polled.ensures.round)
           c.in_default.not-AllWait
-          (rw (c.round-polled.ensures.kept, known.kept) at c.end_selection.ensures.ends));
-      completed = rw (c.round-polled.ensures.kept, known.kept) at c.end_selection.ensures.completed;
-      in_time = λ never late. c.in_default.not-AllWait (c.end_selection.ensures.late late);
-      kept = cc;
+          (rw (c.round-polled.ensures.setup, known.setup) at c.end_selection.ensures.ends));
+      completed = rw (c.round-polled.ensures.setup, known.setup) at c.end_selection.ensures.completed;
+      in_time = λ never late. c.in_default.not-AllWait (c.end_selection.ensures.timeout late);
+      setup = cc;
     }
 
 pub returns-then-wait-clause-run : goal.returns-then-wait-clause-run
@@ -19,16 +19,16 @@ returns-then-wait-clause-run g c =
     let known = c.loop.invariant in
     let polled = c.in-AllWait.ensures in
     known.from_here _ _ (AtDeadline
-    (rw known.kept at polled.round)
+    (rw known.setup at polled.round)
     c.if-wait.ensures.does
-    (rw (c.if-wait.ensures.kept, polled.kept, known.kept) at c.round-last.ensures.round)
-    (rw (c.round-last.ensures.kept, c.if-wait.ensures.kept, polled.kept, known.kept)
+    (rw (c.if-wait.ensures.setup, polled.setup, known.setup) at c.round-last.ensures.round)
+    (rw (c.round-last.ensures.setup, c.if-wait.ensures.setup, polled.setup, known.setup)
     at c.end_selection-then-wait.ensures.ends))
 
 pub returns-then-wait-clause-in_time : goal.returns-then-wait-clause-in_time
 returns-then-wait-clause-in_time g c =
     let polled = c.in-AllWait.ensures in λ never late. never _ _
-    (rw c.loop.invariant.kept at polled.kept)
+    (rw c.loop.invariant.setup at polled.setup)
     c.if-wait.ensures.does
 
 pub loop-preserved : goal.loop-preserved
@@ -36,7 +36,7 @@ loop-preserved g c =
     let known = c.loop.invariant in
     let polled = c.in-AllWait.ensures in record {
       from_here = λ new result rest. known.from_here _ _ (Again
-          (rw known.kept at polled.round) c.if-wait.ensures.does rest);
-      kept = cc;
+          (rw known.setup at polled.round) c.if-wait.ensures.does rest);
+      setup = cc;
       on = (tt, tt);
     }

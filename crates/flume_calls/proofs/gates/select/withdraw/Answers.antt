@@ -10,7 +10,7 @@ loop-init g c = record {
   within = c.start-arm.ensures.within;
   withdrawn = rw c.start-arm.ensures.start NoArm;
   spared = λ arm is held. held;
-  kept = refl;
+  setup = refl;
 }
 
 pub loop-preserved : goal.loop-preserved
@@ -34,7 +34,7 @@ loop-preserved g c =
             (known.spared arm is held))
         | else-not-is_spared w ↦ rw w.gate-is (known.spared arm is held)
       ];
-      kept = elim c.if-not-is_spared.branch [
+      setup = elim c.if-not-is_spared.branch [
         | then-not-is_spared w ↦ cc
         | else-not-is_spared w ↦ cc
       ];

@@ -1,5 +1,5 @@
-use Rattle.flume_chain.proofs.Kept.{new_kept}
-use Rattle.flume_chain.proofs.Edits.{cleared_room}
+use Rattle.flume_chain.proofs.ChainListLemmas.{new_kept}
+use Rattle.flume_chain.proofs.EditLemmas.{cleared_room}
 use Rattle.flume_chain.proofs.chain.Chain.clear.Goals as goal
 
 pub invariant_of-self : goal.invariant_of-self

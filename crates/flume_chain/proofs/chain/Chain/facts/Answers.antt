@@ -1,4 +1,4 @@
-use Rattle.flume_chain.proofs.Edits.{apart_kept}
+use Rattle.flume_chain.proofs.EditLemmas.{apart_kept}
 use Rattle.flume_chain.proofs.chain.Chain.facts.Goals as goal
 
 pub returns : goal.returns

@@ -1,5 +1,5 @@
 use Rattle.std.proofs.Common.{◌∙◌}
-use Rattle.flume_chain.proofs.Edits.{part_kept}
+use Rattle.flume_chain.proofs.EditLemmas.{part_kept}
 use Rattle.flume_chain.proofs.chain.Chain.get.Goals as goal
 
 pub returns : goal.returns

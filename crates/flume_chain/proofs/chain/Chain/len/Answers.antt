@@ -1,5 +1,5 @@
 use Rattle.std.proofs.Common.{length, ap, ◌∙◌}
-use Rattle.flume_chain.proofs.Kept.{kept_items}
+use Rattle.flume_chain.proofs.ChainListLemmas.{kept_items}
 use Rattle.flume_chain.proofs.chain.Chain.len.Goals as goal
 
 pub returns : goal.returns

@@ -1,13 +1,13 @@
 use Rattle.std.proofs.Common.{sym, subst, refl, ◌∙◌, IsSome}
 use Rattle.flume_chain.specs.ChainState.{HoldsItems, table_of}
-use Rattle.flume_chain.proofs.Kept.{standing, missing, found_split, neighbours}
-use Rattle.flume_chain.proofs.Edits.{found_kept}
-use Rattle.flume_chain.proofs.Firsts.{last_stands, moved_kept, moved_items}
-use Rattle.flume_chain.proofs.ChainLaws.{moved_back_missing}
+use Rattle.flume_chain.proofs.ChainListLemmas.{standing, missing, found_split, neighbours}
+use Rattle.flume_chain.proofs.EditLemmas.{found_kept}
+use Rattle.flume_chain.proofs.FirstElementLemmas.{last_stands, moved_kept, moved_items}
+use Rattle.flume_chain.proofs.ChainLemmas.{moved_back_missing}
 use Rattle.flume_chain.proofs.chain.Chain.move_back.Goals as goal
 
-pub returns-in_default-clause-stood : goal.returns-in_default-clause-stood
-returns-in_default-clause-stood g c =
+pub returns-in_default-clause-found : goal.returns-in_default-clause-found
+returns-in_default-clause-found g c =
     let none = missing _ _ c.in_default.ensures.value ∙ found_kept c.self.inside.links c.self.inside.len c.args.self.now c.self.invariant c.args.place c.self.view_is in
     (λ e. absurd cc, λ some. absurd (let no = subst IsSome (sym none) some in cc))
 
@@ -44,8 +44,8 @@ invariant_of-self g c =
     moved_kept c.self.inside.links c.unlink.new.self c.self.inside.len c.args.place e.element c.self.invariant
     e.is c.unlink.ensures.unlinked c.link_last.new.self c.link_last.ensures.linked
 
-pub returns-clause-stood : goal.returns-clause-stood
-returns-clause-stood g c =
+pub returns-clause-found : goal.returns-clause-found
+returns-clause-found g c =
     let e = standing _ _ _ c.in-Some.ensures.value in
     let some = e.is ∙ found_kept c.self.inside.links c.self.inside.len c.args.self.now c.self.invariant c.args.place c.self.view_is in
     (λ _. subst IsSome some refl, λ _. refl)

@@ -1,4 +1,4 @@
-use Rattle.flume_chain.proofs.Kept.{new_kept}
+use Rattle.flume_chain.proofs.ChainListLemmas.{new_kept}
 use Rattle.flume_chain.proofs.chain.Chain.new.Goals as goal
 
 pub invariant_of-result : goal.invariant_of-result

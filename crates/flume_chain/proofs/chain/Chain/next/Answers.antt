@@ -1,7 +1,7 @@
 use Rattle.std.proofs.Common.{Some, ap, sym, ◌∙◌}
 use Rattle.flume_chain.specs.ChainState.{table_of, place_after}
-use Rattle.flume_chain.proofs.Tables.{after_none}
-use Rattle.flume_chain.proofs.Kept.{standing, missing, kept_items, after_is}
+use Rattle.flume_chain.proofs.TableLemmas.{after_none}
+use Rattle.flume_chain.proofs.ChainListLemmas.{standing, missing, kept_items, after_is}
 use Rattle.flume_chain.proofs.chain.Chain.next.Goals as goal
 
 pub returns-in_default : goal.returns-in_default

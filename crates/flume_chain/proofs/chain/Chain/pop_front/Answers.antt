@@ -1,7 +1,7 @@
 use Rattle.std.proofs.Common.{◌-◌, [], ◌∷◌, IsSome, length, refl, sym, ap, subst, ◌∙◌, arith}
 use Rattle.flume_chain.specs.ChainState.{HoldsItems, table_of, first_element, behind_first}
-use Rattle.flume_chain.proofs.Kept.{same_kept, same_chain, kept_items, neighbours, place_below, walked}
-use Rattle.flume_chain.proofs.Firsts.{begun, begun_split, none_begun, first_taken}
+use Rattle.flume_chain.proofs.ChainListLemmas.{same_kept, same_chain, kept_items, neighbours, place_below, walked}
+use Rattle.flume_chain.proofs.FirstElementLemmas.{begun, begun_split, none_begun, first_taken}
 use Rattle.flume_chain.proofs.chain.Chain.pop_front.Goals as goal
 
 pub take_first-requires-clause-first : goal.take_first-requires-clause-first

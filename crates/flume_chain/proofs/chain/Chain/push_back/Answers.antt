@@ -1,9 +1,9 @@
 use Rattle.std.proofs.Common.{◌+◌, ◌++◌, ◌∷◌, [], length, length-append, sym, ap, ◌∙◌, arith, append-nil}
 use Rattle.flume_chain.specs.ChainState.{found, table_of}
-use Rattle.flume_chain.proofs.Tables.{item}
-use Rattle.flume_chain.proofs.Steps.{last_below}
-use Rattle.flume_chain.proofs.Kept.{same_kept, same_chain, kept_items, walked}
-use Rattle.flume_chain.proofs.Puts.{free_stands, push_holds, put_room, not_full, on_err}
+use Rattle.flume_chain.proofs.TableLemmas.{item}
+use Rattle.flume_chain.proofs.StepLemmas.{last_below}
+use Rattle.flume_chain.proofs.ChainListLemmas.{same_kept, same_chain, kept_items, walked}
+use Rattle.flume_chain.proofs.PutLemmas.{free_stands, push_holds, put_room, not_full, on_err}
 use Rattle.flume_chain.proofs.chain.Chain.push_back.Goals as goal
 
 pub link_before-requires-clause-free : goal.link_before-requires-clause-free

@@ -1,6 +1,6 @@
 use Rattle.std.proofs.Common.{ap, ◌∙◌}
 use Rattle.flume_chain.specs.ChainState.{found}
-use Rattle.flume_chain.proofs.Kept.{none_taken, same_kept, same_chain, kept_items, beside_emptied, left_kept, left_items}
+use Rattle.flume_chain.proofs.ChainListLemmas.{none_taken, same_kept, same_chain, kept_items, beside_emptied, left_kept, left_items}
 use Rattle.flume_chain.proofs.chain.Chain.remove.Goals as goal
 
 pub invariant_of-self : goal.invariant_of-self

@@ -1,6 +1,6 @@
 use Rattle.std.proofs.Common.{◌-◌, min, ap, ◌∙◌}
 use Rattle.flume_chain.specs.Links.{end, with_new_label}
-use Rattle.flume_chain.proofs.Writes.{edited_kept, edited_items}
+use Rattle.flume_chain.proofs.WriteLemmas.{edited_kept, edited_items}
 use Rattle.flume_chain.proofs.chain.Chain.set_label.Goals as goal
 
 pub invariant_of-self : goal.invariant_of-self

@@ -1,6 +1,6 @@
 use Rattle.std.proofs.Common.{IsSome, refl, sym, subst, ◌∙◌}
-use Rattle.flume_chain.proofs.Edits.{found_kept, part_kept}
-use Rattle.flume_chain.proofs.Writes.{written_kept, written_chain}
+use Rattle.flume_chain.proofs.EditLemmas.{found_kept, part_kept}
+use Rattle.flume_chain.proofs.WriteLemmas.{written_kept, written_chain}
 use Rattle.flume_chain.proofs.chain.Chain.value_mut.Goals as goal
 
 pub value_mut-requires : goal.value_mut-requires

@@ -1,8 +1,8 @@
 -- A refused clone changes nothing, and another one counts one end more.
 use Rattle.std.proofs.Common.{◌+◌, refl, rules, arith}
 use Rattle.flume_model.specs.Log.{ReceiverJoins}
-use Rattle.flume_core.proofs.Keeping.{still, counts_open}
-use Rattle.flume_core.proofs.dues.AfterStep.{unchanged, counted}
+use Rattle.flume_core.proofs.InvariantLemmas.{still, counts_open}
+use Rattle.flume_core.proofs.dues.AfterStepLemmas.{unchanged, counted}
 use Rattle.flume_core.proofs.chan.Chan.clone_receiver.Goals as goal
 
 pub returns-in-0-clause-step : goal.returns-in-0-clause-step

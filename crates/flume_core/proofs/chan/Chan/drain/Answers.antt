@@ -1,12 +1,12 @@
 -- All queued messages are handed out, and blocked ones move in.
 use Rattle.std.proofs.Common.{◌≡◌, [], refl, ◌∙◌, sym, arith, rules}
-use Rattle.flume_core.proofs.Views.{queue_at_log, some_queued}
-use Rattle.flume_core.proofs.Keeping.{still}
-use Rattle.flume_core.proofs.Drains.{drains}
+use Rattle.flume_core.proofs.ViewLemmas.{queue_at_log, some_queued}
+use Rattle.flume_core.proofs.InvariantLemmas.{still}
+use Rattle.flume_core.proofs.DrainLemmas.{drains}
 use Rattle.flume_state.specs.Effects.{after_admissions}
 use Rattle.flume_state.specs.State.{State}
-use Rattle.flume_core.proofs.Spaces.{space_filled_up}
-use Rattle.flume_core.proofs.dues.AfterStep.{unchanged, drained}
+use Rattle.flume_core.proofs.SpaceLemmas.{space_filled_up}
+use Rattle.flume_core.proofs.dues.AfterStepLemmas.{unchanged, drained}
 use Rattle.flume_core.proofs.chan.Chan.drain.Goals as goal
 
 pub returns-in_default-clause-step : goal.returns-in_default-clause-step

@@ -1,9 +1,9 @@
 -- An end that is not there, and one that leaves.
 use Rattle.std.proofs.Common.{◌-◌, refl, rules}
 use Rattle.flume_model.specs.Log.{SenderLeaves}
-use Rattle.flume_core.proofs.Keeping.{still}
-use Rattle.flume_core.proofs.Closing.{leaves}
-use Rattle.flume_core.proofs.dues.AfterStep.{unchanged, leaves as leaves_due}
+use Rattle.flume_core.proofs.InvariantLemmas.{still}
+use Rattle.flume_core.proofs.ClosingLemmas.{leaves}
+use Rattle.flume_core.proofs.dues.AfterStepLemmas.{unchanged, leaves as leaves_due}
 use Rattle.flume_core.proofs.chan.Chan.drop_sender.Goals as goal
 
 pub returns-then-self-eq0-clause-step : goal.returns-then-self-eq0-clause-step

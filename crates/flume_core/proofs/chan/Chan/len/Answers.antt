@@ -1,8 +1,8 @@
 -- A query changes nothing.
 use Rattle.std.proofs.Common.{refl, rules}
-use Rattle.flume_core.proofs.Keeping.{still}
-use Rattle.flume_core.proofs.Views.{boundary_is}
-use Rattle.flume_core.proofs.dues.AfterStep.{unchanged}
+use Rattle.flume_core.proofs.InvariantLemmas.{still}
+use Rattle.flume_core.proofs.ViewLemmas.{boundary_is}
+use Rattle.flume_core.proofs.dues.AfterStepLemmas.{unchanged}
 use Rattle.flume_core.proofs.chan.Chan.len.Goals as goal
 
 pub returns-clause-step : goal.returns-clause-step

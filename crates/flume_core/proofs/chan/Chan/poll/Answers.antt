@@ -3,10 +3,10 @@ use Rattle.std.proofs.Common.{◌≡◌, true, [], Some, refl, rules}
 use Rattle.flume_model.specs.Limits.{IsOpen, IsClosed}
 use Rattle.flume_state.specs.Receivers.{receiver_status, looks, waits_on}
 use Rattle.flume_state.specs.Effects.{with_front}
-use Rattle.flume_core.proofs.Answering.{closed_where}
-use Rattle.flume_core.proofs.Asked.{poll_none, poll_collects, poll_waits, poll_takes, poll_waits_on, poll_ends}
-use Rattle.flume_core.proofs.AskedMarks.{looks_else}
-use Rattle.flume_core.proofs.dues.AfterStep.{unchanged, left, took_parked, waits}
+use Rattle.flume_core.proofs.AnsweringLemmas.{closed_where}
+use Rattle.flume_core.proofs.AskLemmas.{poll_none, poll_collects, poll_waits, poll_takes, poll_waits_on, poll_ends}
+use Rattle.flume_core.proofs.AskedMarkLemmas.{looks_else}
+use Rattle.flume_core.proofs.dues.AfterStepLemmas.{unchanged, left, took_parked, waits}
 use Rattle.flume_core.proofs.chan.Chan.poll.Goals as goal
 
 pub returns-in_default-clause-step : goal.returns-in_default-clause-step

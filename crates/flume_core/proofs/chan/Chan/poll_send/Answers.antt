@@ -3,12 +3,12 @@ use Rattle.std.proofs.Common.{refl, ◌∙◌, rules, eq-eqb}
 use Rattle.flume_model.specs.Limits.{IsClosed}
 use Rattle.flume_state.specs.Notices.{with_signal}
 use Rattle.flume_state.specs.Sends.{noticed_send}
-use Rattle.flume_core.proofs.Keeping.{still, still_signal}
-use Rattle.flume_core.proofs.Moves.{accepts}
-use Rattle.flume_core.proofs.Views.{open_at_log, closed_at_log}
-use Rattle.flume_core.proofs.Answering.{unknown, known, waits, taken_back, closed_where}
-use Rattle.flume_core.proofs.Telling.{same_marks_noticed}
-use Rattle.flume_core.proofs.dues.AfterStep.{unchanged, spent, given_back, signalled}
+use Rattle.flume_core.proofs.InvariantLemmas.{still, still_signal}
+use Rattle.flume_core.proofs.MoveLemmas.{accepts}
+use Rattle.flume_core.proofs.ViewLemmas.{open_at_log, closed_at_log}
+use Rattle.flume_core.proofs.AnsweringLemmas.{unknown, known, waits, taken_back, closed_where}
+use Rattle.flume_core.proofs.NotifyLemmas.{same_marks_noticed}
+use Rattle.flume_core.proofs.dues.AfterStepLemmas.{unchanged, spent, given_back, signalled}
 use Rattle.flume_core.proofs.chan.Chan.poll_send.Goals as goal
 
 pub returns-in-None-clause-step : goal.returns-in-None-clause-step
@@ -25,8 +25,8 @@ returns-in-Some-false-clause-step g c o log h =
     let shut : IsClosed c.args.self.now.senders c.args.self.now.receivers =
     closed_where _ _ (search rules) in
     taken_back o log _ c.args.self.now _ c.args.ticket c.take_back.result h waiting
-    (λ m closed is. rw is refl) (λ m closed is blocked_ told. rw is (blocked_, closed_at_log h shut, told ∙ eq-eqb _ _ shut))
-    c.take_back.ensures.returned c.take_back.ensures.absent c.take_back.ensures.either
+    (λ m closed is. rw is refl) (λ m closed is blocked_ closed_is. rw is (blocked_, closed_at_log h shut, closed_is ∙ eq-eqb _ _ shut))
+    c.take_back.ensures.returned c.take_back.ensures.absent c.take_back.ensures.possible_reply
 
 pub returns-in-Some-false-2-clause-step : goal.returns-in-Some-false-2-clause-step
 returns-in-Some-false-2-clause-step g c o log h =
@@ -49,4 +49,4 @@ returns-in-Some-false-2-clause-becomes_due g c = λ reachable.
 pub returns-in-Some-false-clause-becomes_due : goal.returns-in-Some-false-clause-becomes_due
 returns-in-Some-false-clause-becomes_due g c = λ reachable.
     given_back c.args.self.now _ _ c.take_back.result c.args.ticket (λ t. refl) c.take_back.ensures.returned
-    c.take_back.ensures.unchanged c.take_back.ensures.either
+    c.take_back.ensures.unchanged c.take_back.ensures.possible_reply

@@ -1,7 +1,7 @@
 -- A query changes nothing.
 use Rattle.std.proofs.Common.{refl, rules}
-use Rattle.flume_core.proofs.Keeping.{still}
-use Rattle.flume_core.proofs.dues.AfterStep.{unchanged}
+use Rattle.flume_core.proofs.InvariantLemmas.{still}
+use Rattle.flume_core.proofs.dues.AfterStepLemmas.{unchanged}
 use Rattle.flume_core.proofs.chan.Chan.receiver_count.Goals as goal
 
 pub returns-clause-step : goal.returns-clause-step

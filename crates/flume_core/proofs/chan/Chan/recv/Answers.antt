@@ -1,11 +1,11 @@
 -- A receive that does not park, and one that does.
 use Rattle.std.proofs.Common.{◌≡◌, ◌<◌, refl, ap, ◌∙◌, rules, arith}
 use Rattle.flume_model.specs.Limits.{most}
-use Rattle.flume_core.proofs.Receives.{parks}
-use Rattle.flume_core.proofs.Views.{open_at_log}
-use Rattle.flume_core.proofs.Answering.{empty_line}
-use Rattle.flume_core.proofs.AsTries.{recv_as_try, recv_comes}
-use Rattle.flume_core.proofs.dues.AfterStep.{parked}
+use Rattle.flume_core.proofs.ReceiveLemmas.{parks}
+use Rattle.flume_core.proofs.ViewLemmas.{open_at_log}
+use Rattle.flume_core.proofs.AnsweringLemmas.{empty_line}
+use Rattle.flume_core.proofs.TryLemmas.{recv_as_try, recv_comes}
+use Rattle.flume_core.proofs.dues.AfterStepLemmas.{parked}
 use Rattle.flume_core.proofs.chan.Chan.recv.Goals as goal
 
 pub returns-in_default-clause-step : goal.returns-in_default-clause-step

@@ -1,6 +1,6 @@
 -- No signal given: the sends are as they were.
 use Rattle.std.proofs.Common.{sym, ap}
-use Rattle.flume_state.proofs.SendsLaws.{changed_same}
+use Rattle.flume_state.proofs.SendMapLemmas.{changed_same}
 use Rattle.flume_core.proofs.chan.Chan.replace_signal.Goals as goal
 
 pub returns-in_default : goal.returns-in_default

@@ -2,12 +2,12 @@
 use Rattle.std.proofs.Common.{◌≡◌, ◌<◌, refl, ap, ◌∙◌, rules, arith}
 use Rattle.flume_model.specs.declared.step.Reply.TheVariants.{Full}
 use Rattle.flume_model.specs.Limits.{most}
-use Rattle.flume_core.proofs.Moves.{blocks}
-use Rattle.flume_core.proofs.Answering.{takes_none_in}
-use Rattle.flume_core.proofs.AsTries.{send_as_try, send_comes, try_never_spent}
-use Rattle.flume_core.proofs.Keeping.{still}
-use Rattle.flume_core.proofs.Views.{open_at_log}
-use Rattle.flume_core.proofs.dues.AfterStep.{unchanged, blocks as blocks_due}
+use Rattle.flume_core.proofs.MoveLemmas.{blocks}
+use Rattle.flume_core.proofs.AnsweringLemmas.{takes_none_in}
+use Rattle.flume_core.proofs.TryLemmas.{send_as_try, send_comes, try_never_spent}
+use Rattle.flume_core.proofs.InvariantLemmas.{still}
+use Rattle.flume_core.proofs.ViewLemmas.{open_at_log}
+use Rattle.flume_core.proofs.dues.AfterStepLemmas.{unchanged, blocks as blocks_due}
 use Rattle.flume_core.proofs.chan.Chan.send.Goals as goal
 
 pub returns-in_default-clause-step : goal.returns-in_default-clause-step

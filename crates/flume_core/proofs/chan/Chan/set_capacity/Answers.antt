@@ -4,11 +4,11 @@ use Rattle.flume_model.specs.Limits.{IsBounded, IsOpen, IsClosed}
 use Rattle.flume_model.specs.Line.{greater}
 use Rattle.flume_state.specs.Effects.{after_admissions}
 use Rattle.flume_state.specs.State.{State}
-use Rattle.flume_core.proofs.Keeping.{still}
-use Rattle.flume_core.proofs.Resizes.{resizes}
-use Rattle.flume_core.proofs.Spaces.{space_filled_up}
-use Rattle.flume_core.proofs.Views.{open_at_log, closed_at_log}
-use Rattle.flume_core.proofs.dues.AfterStep.{resized_due}
+use Rattle.flume_core.proofs.InvariantLemmas.{still}
+use Rattle.flume_core.proofs.ResizeLemmas.{resizes}
+use Rattle.flume_core.proofs.SpaceLemmas.{space_filled_up}
+use Rattle.flume_core.proofs.ViewLemmas.{open_at_log, closed_at_log}
+use Rattle.flume_core.proofs.dues.AfterStepLemmas.{resized_due}
 use Rattle.flume_core.proofs.chan.Chan.set_capacity.Goals as goal
 
 pub returns-then-is_none-clause-step : goal.returns-then-is_none-clause-step

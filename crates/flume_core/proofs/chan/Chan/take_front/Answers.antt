@@ -1,6 +1,6 @@
 -- The front of the queue is taken if no message is blocked.
 use Rattle.std.proofs.Common.{sym, ◌∙◌}
-use Rattle.flume_core.proofs.Unblocked.{takes_alone}
+use Rattle.flume_core.proofs.UnblockedLemmas.{takes_alone}
 use Rattle.flume_core.proofs.chan.Chan.take_front.Goals as goal
 
 pub returns-then-blocked_len-eq0-clause-some : goal.returns-then-blocked_len-eq0-clause-some

@@ -1,11 +1,11 @@
 -- The front is handed out, or nothing is found.
 use Rattle.std.proofs.Common.{◌≡◌, [], None, refl, rules}
 use Rattle.flume_state.specs.Effects.{with_front}
-use Rattle.flume_core.proofs.Keeping.{still}
-use Rattle.flume_core.proofs.Takes.{takes}
-use Rattle.flume_core.proofs.Views.{open_at_log, closed_at_log}
-use Rattle.flume_core.proofs.Answering.{empty_line, front_line, closed_where}
-use Rattle.flume_core.proofs.dues.AfterStep.{unchanged, took}
+use Rattle.flume_core.proofs.InvariantLemmas.{still}
+use Rattle.flume_core.proofs.TakeLemmas.{takes}
+use Rattle.flume_core.proofs.ViewLemmas.{open_at_log, closed_at_log}
+use Rattle.flume_core.proofs.AnsweringLemmas.{empty_line, front_line, closed_where}
+use Rattle.flume_core.proofs.dues.AfterStepLemmas.{unchanged, took}
 use Rattle.flume_core.proofs.chan.Chan.try_recv.Goals as goal
 
 pub returns-in-Some-clause-step : goal.returns-in-Some-clause-step

@@ -1,10 +1,10 @@
 -- A send that is refused, and one that is taken in.
 use Rattle.std.proofs.Common.{◌≡◌, [], ◌∷◌, ◌++◌, refl, ◌∙◌, rules}
 use Rattle.flume_model.specs.Entries.{round_for_fills}
-use Rattle.flume_core.proofs.Keeping.{still}
-use Rattle.flume_core.proofs.Moves.{queues}
-use Rattle.flume_core.proofs.Answering.{takes_in, takes_none_in, fills_at_log}
-use Rattle.flume_core.proofs.dues.AfterStep.{unchanged, woken}
+use Rattle.flume_core.proofs.InvariantLemmas.{still}
+use Rattle.flume_core.proofs.MoveLemmas.{queues}
+use Rattle.flume_core.proofs.AnsweringLemmas.{takes_in, takes_none_in, fills_at_log}
+use Rattle.flume_core.proofs.dues.AfterStepLemmas.{unchanged, woken}
 use Rattle.flume_core.proofs.chan.Chan.try_send.Goals as goal
 
 pub returns-then-not-is_open-clause-step : goal.returns-then-not-is_open-clause-step

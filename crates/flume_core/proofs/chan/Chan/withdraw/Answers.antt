@@ -1,9 +1,9 @@
 -- How a parked receiver is answered that leaves.
 use Rattle.std.proofs.Common.{refl, rules, inl, inr}
 use Rattle.flume_state.specs.declared.entries.ReceiverStatus.TheVariants.{Waiting, Woken}
-use Rattle.flume_core.proofs.Asked.{withdraw_none, withdraw_collects, withdraw_takes, withdraw_leaves, withdraw_passes}
-use Rattle.flume_core.proofs.AskedMarks.{blocks_else}
-use Rattle.flume_core.proofs.dues.AfterStep.{unchanged, left, took_parked, passed}
+use Rattle.flume_core.proofs.AskLemmas.{withdraw_none, withdraw_collects, withdraw_takes, withdraw_leaves, withdraw_passes}
+use Rattle.flume_core.proofs.AskedMarkLemmas.{blocks_else}
+use Rattle.flume_core.proofs.dues.AfterStepLemmas.{unchanged, left, took_parked, passed}
 use Rattle.flume_core.proofs.chan.Chan.withdraw.Goals as goal
 
 pub returns-in_default-clause-step : goal.returns-in_default-clause-step

@@ -1,9 +1,9 @@
 -- The state of a send that takes its message back.
 use Rattle.std.proofs.Common.{refl, ◌∙◌, rules}
-use Rattle.flume_core.proofs.Keeping.{still}
-use Rattle.flume_core.proofs.Moves.{accepts}
-use Rattle.flume_core.proofs.Answering.{unknown, known, waits, taken_back, closed_as}
-use Rattle.flume_core.proofs.dues.AfterStep.{unchanged, spent, given_back}
+use Rattle.flume_core.proofs.InvariantLemmas.{still}
+use Rattle.flume_core.proofs.MoveLemmas.{accepts}
+use Rattle.flume_core.proofs.AnsweringLemmas.{unknown, known, waits, taken_back, closed_as}
+use Rattle.flume_core.proofs.dues.AfterStepLemmas.{unchanged, spent, given_back}
 use Rattle.flume_core.proofs.chan.Chan.withdraw_send.Goals as goal
 
 pub returns-in-None-clause-step : goal.returns-in-None-clause-step
@@ -18,8 +18,8 @@ pub returns-in-Some-false-clause-step : goal.returns-in-Some-false-clause-step
 returns-in-Some-false-clause-step g c o log h =
     let waiting = waits o log c.args.self.now c.args.ticket h cc in
     taken_back o log _ c.args.self.now _ c.args.ticket c.take_back.result h waiting
-    (λ m closed is. rw is refl) (λ m closed is blocked_ told. rw is (blocked_, told ∙ closed_as o log _ h))
-    c.take_back.ensures.returned c.take_back.ensures.absent c.take_back.ensures.either
+    (λ m closed is. rw is refl) (λ m closed is blocked_ closed_is. rw is (blocked_, closed_is ∙ closed_as o log _ h))
+    c.take_back.ensures.returned c.take_back.ensures.absent c.take_back.ensures.possible_reply
 
 pub returns-in-None-clause-becomes_due : goal.returns-in-None-clause-becomes_due
 returns-in-None-clause-becomes_due g c = λ reachable. unchanged _ _ _ _ (λ t. refl) (search rules)
@@ -31,4 +31,4 @@ returns-in-Some-true-clause-becomes_due g c = λ reachable.
 pub returns-in-Some-false-clause-becomes_due : goal.returns-in-Some-false-clause-becomes_due
 returns-in-Some-false-clause-becomes_due g c = λ reachable.
     given_back c.args.self.now _ _ c.take_back.result c.args.ticket (λ t. refl) c.take_back.ensures.returned
-    c.take_back.ensures.unchanged c.take_back.ensures.either
+    c.take_back.ensures.unchanged c.take_back.ensures.possible_reply

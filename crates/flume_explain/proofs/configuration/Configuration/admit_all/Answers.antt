@@ -1,7 +1,7 @@
 -- Each that joins is the first of those that were to join.
 use Rattle.std.proofs.Common.{◌≡◌, ◌-◌, length, sym, ◌∙◌, ap, arith, rules}
 use Rattle.flume_explain.specs.ByPlaces.{admit_all, admit}
-use Rattle.flume_explain.proofs.Admissions.{none_joins_full, none_joins, one_joins, still_blocked}
+use Rattle.flume_explain.proofs.AdmissionLemmas.{none_joins_full, none_joins, one_joins, still_blocked}
 use Rattle.flume_explain.proofs.configuration.Configuration.admit_all.Goals as goal
 
 pub returns-then-is_full : goal.returns-then-is_full

@@ -1,7 +1,7 @@
 -- A step leads as the move does that it is.
 use Rattle.std.proofs.Common.{sym, ◌∙◌, ap, true, false}
 use Rattle.std.specs.Option.{option_copied}
-use Rattle.flume_explain.proofs.AfterMoves.{no_call, no_move, step_leads, step_wrong}
+use Rattle.flume_explain.proofs.AfterMoveLemmas.{no_call, no_move, step_leads, step_wrong}
 use Rattle.flume_explain.proofs.configuration.Configuration.after.Goals as goal
 
 pub returns-in_default-clause-nowhere : goal.returns-in_default-clause-nowhere

@@ -11,8 +11,8 @@ use Rattle.flume_explain.specs.declared.place_reply.PlaceReply.{PlaceReply}
 use Rattle.std.specs.Option.{option_copied}
 use Rattle.flume_explain.specs.Outcomes.{outcome}
 use Rattle.flume_explain.specs.Progresses.{progress_of}
-use Rattle.flume_explain.proofs.MoveLeads.{leads, leads_same, leads_wrong, left_with}
-use Rattle.flume_explain.proofs.Reaching.{move_reaches}
+use Rattle.flume_explain.proofs.MoveLeadLemmas.{leads, leads_same, leads_wrong, left_with}
+use Rattle.flume_explain.proofs.ReachingLemmas.{move_reaches}
 use Rattle.flume_explain.proofs.configuration.Configuration.after_move.Goals as goal
 
 pub returns-then-is_wrong-clause-nowhere : goal.returns-then-is_wrong-clause-nowhere

@@ -7,8 +7,8 @@ use Rattle.flume_explain.specs.Configurations.{State, with_progress}
 use Rattle.flume_explain.specs.Progresses.{progress_of}
 use Rattle.flume_explain.specs.Leads.{CallLeadsTo}
 use Rattle.std.specs.Option.{option_copied}
-use Rattle.flume_explain.proofs.Reaching.{refusal_reaches}
-use Rattle.flume_explain.proofs.RefusalLeads.{never_refused, refusal_leads, refusal_same, refusal_wrong}
+use Rattle.flume_explain.proofs.ReachingLemmas.{refusal_reaches}
+use Rattle.flume_explain.proofs.RefusalLeadLemmas.{never_refused, refusal_leads, refusal_same, refusal_wrong}
 use Rattle.flume_explain.proofs.configuration.Configuration.after_refusal.Goals as goal
 
 pub returns-then-not-may_refuse-clause-nowhere : goal.returns-then-not-may_refuse-clause-nowhere

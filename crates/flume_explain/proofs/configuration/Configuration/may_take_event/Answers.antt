@@ -3,9 +3,9 @@ use Rattle.std.proofs.Common.{◌≡◌, Bool, true, false, not, Option, Some, N
 use Rattle.std.specs.Option.{is_some}
 use Rattle.flume_explain.specs.declared.configuration.OpenCall.{OpenCall}
 use Rattle.flume_explain.specs.Configurations.{State, call_by}
-use Rattle.flume_explain.proofs.EventsAt.{event_read}
-use Rattle.flume_explain.proofs.ReachedEvents.{fits_begins, fits_returns}
-use Rattle.flume_explain.proofs.Waits.{waits_begins, waits_none, waits_call}
+use Rattle.flume_explain.proofs.EventsAtLemmas.{event_read}
+use Rattle.flume_explain.proofs.ReachedEventLemmas.{fits_begins, fits_returns}
+use Rattle.flume_explain.proofs.WaitLemmas.{waits_begins, waits_none, waits_call}
 use Rattle.std.proofs.lemmas.Bool.{false≢true}
 use Rattle.flume_explain.proofs.configuration.Configuration.may_take_event.Goals as goal
 

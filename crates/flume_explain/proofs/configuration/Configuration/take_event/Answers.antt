@@ -1,9 +1,9 @@
 -- Where an event leads that begins a call, and one that returns one; no other may come.
 use Rattle.std.proofs.Common.{Some, ap, ◌∙◌, sym, subst}
 use Rattle.flume_explain.specs.Dead.{EventLeads}
-use Rattle.flume_explain.proofs.EventsAt.{event_read}
-use Rattle.flume_explain.proofs.Happening.{begins_leads, returns_leads}
-use Rattle.flume_explain.proofs.Waits.{waits_none}
+use Rattle.flume_explain.proofs.EventsAtLemmas.{event_read}
+use Rattle.flume_explain.proofs.HappeningLemmas.{begins_leads, returns_leads}
+use Rattle.flume_explain.proofs.WaitLemmas.{waits_none}
 use Rattle.flume_explain.specs.Configurations.{State, call_by}
 use Rattle.flume_explain.proofs.configuration.Configuration.take_event.Goals as goal
 

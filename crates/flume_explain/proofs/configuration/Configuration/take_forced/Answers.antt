@@ -2,8 +2,8 @@
 use Rattle.std.proofs.Common.{◌≡◌, sym, subst, arith}
 use Rattle.flume_explain.specs.Dead.{IsDead}
 use Rattle.flume_explain.specs.Reached.{AreExplained, IsReached}
-use Rattle.flume_explain.proofs.ReachedEvents.{all_explained, event_reaches, reached_explained}
-use Rattle.flume_explain.proofs.Ways.{event_dead, wait_dead}
+use Rattle.flume_explain.proofs.ReachedEventLemmas.{all_explained, event_reaches, reached_explained}
+use Rattle.flume_explain.proofs.FrameLemmas.{event_dead, wait_dead}
 use Rattle.flume_explain.proofs.configuration.Configuration.take_forced.Goals as goal
 
 pub returns-in-Some-clause-stops : goal.returns-in-Some-clause-stops
@@ -14,12 +14,12 @@ returns-in-Some-clause-stops g c = λ next own is gone.
 pub returns-then-not-may_take_event-clause-dead : goal.returns-then-not-may_take_event-clause-dead
 returns-then-not-may_take_event-clause-dead g c = λ next is.
     c.loop-next.invariant.dead (wait_dead g.T.PartialEq.eq c.args.events.now c.loop-next.next c.loop-next.self c.loop-next-test.true
-    c.in_default.ensures.only (c.may_take_event.ensures.waits c.if-not-may_take_event.true))
+    c.in_default.ensures.event_only (c.may_take_event.ensures.waits c.if-not-may_take_event.true))
 
 pub loop-next-preserved : goal.loop-next-preserved
 loop-next-preserved g c = record {
   dead = λ gone. c.loop-next.invariant.dead (event_dead g.T.PartialEq.eq c.args.events.now c.loop-next.next c.loop-next.self c.take_event.new.self
-      c.loop-next-test.true c.in_default.ensures.only (c.take_event.ensures.leads c.if-not-take_event.false) gone);
+      c.loop-next-test.true c.in_default.ensures.event_only (c.take_event.ensures.leads c.if-not-take_event.false) gone);
   reaches = λ o r.
       event_reaches g.T.PartialEq.eq c.args.events.now c.loop-next.next c.loop-next.self c.take_event.new.self c.loop-next-test.true
       (c.may_take_event.ensures.fits c.if-not-may_take_event.false) (c.take_event.ensures.leads c.if-not-take_event.false) o

@@ -3,8 +3,8 @@ use Rattle.std.proofs.Common.{◌≡◌, ◌+◌, sym, subst, drop}
 use Rattle.flume_explain.specs.Agreement.{Agrees}
 use Rattle.flume_explain.specs.Dead.{IsDead}
 use Rattle.flume_explain.specs.Reached.{Reaches}
-use Rattle.flume_explain.proofs.ReachedEvents.{event_reaches}
-use Rattle.flume_explain.proofs.Deads.{spent_event, spent_wait}
+use Rattle.flume_explain.proofs.ReachedEventLemmas.{event_reaches}
+use Rattle.flume_explain.proofs.DeadReceiveLemmas.{spent_event, spent_wait}
 use Rattle.flume_explain.proofs.configuration.Configuration.try_event.Goals as goal
 
 pub returns-then-take_event-clause-leads : goal.returns-then-take_event-clause-leads

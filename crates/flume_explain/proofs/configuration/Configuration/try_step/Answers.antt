@@ -3,7 +3,7 @@ use Rattle.std.proofs.Common.{◌≡◌, refl, sym, ap, ◌∙◌, subst, drop, 
 use Rattle.flume_explain.specs.Configurations.{State}
 use Rattle.flume_explain.specs.Dead.{IsDead}
 use Rattle.flume_explain.specs.Reached.{Reaches}
-use Rattle.flume_explain.proofs.Deads.{spent_step, spent_same, spent_nowhere}
+use Rattle.flume_explain.proofs.DeadReceiveLemmas.{spent_step, spent_same, spent_nowhere}
 use Rattle.flume_explain.proofs.configuration.Configuration.try_step.Goals as goal
 
 pub returns-in-Leads-clause-leads : goal.returns-in-Leads-clause-leads
@@ -42,4 +42,4 @@ returns-in-Leads-clause-reaches g c = λ new at e.
 pub returns-then-not-has_call-clause-spent : goal.returns-then-not-has_call-clause-spent
 returns-then-not-has_call-clause-spent g c = λ e o past item items agrees short on of.
     let calls = c.as_slice.ensures.value ∙ ap (λ (s : State). s.calls) c.self.view_is in
-    absurd (c.has_call.ensures.no c.if-not-has_call.true (subst (λ l. Contains l c.args.call) (sym calls) of.1))
+    absurd (c.has_call.ensures.absent c.if-not-has_call.true (subst (λ l. Contains l c.args.call) (sym calls) of.1))

@@ -1,10 +1,10 @@
 -- A choice that leads to a dead configuration, or is spent, is one less; with none left, the configuration is dead.
 use Rattle.std.proofs.Common.{◌≡◌, refl, sym, subst, length, arith}
 use Rattle.std.proofs.lemmas.List.{nil_from_length}
-use Rattle.flume_explain.specs.Dead.{AreLeft, IsDead}
+use Rattle.flume_explain.specs.Dead.{CoverNext, IsDead}
 use Rattle.flume_explain.specs.Reached.{Reaches}
-use Rattle.flume_explain.proofs.Deads.{dead, fewer}
-use Rattle.flume_explain.proofs.Ways.{some_left}
+use Rattle.flume_explain.proofs.DeadReceiveLemmas.{dead, fewer}
+use Rattle.flume_explain.proofs.FrameLemmas.{some_left}
 use Rattle.flume_explain.proofs.frame.Frame.next.Goals as goal
 
 pub returns-in-Leads-clause-leads : goal.returns-in-Leads-clause-leads
@@ -12,8 +12,8 @@ returns-in-Leads-clause-leads g c = λ choice new at is gone.
     let a : new ≡ c.in-Leads.new = cc in
     let b : at ≡ c.in-Leads.at = cc in
     fewer g.T.PartialEq.eq c.args.events.now c.loop-choice.self.place c.loop-choice.self.configuration c.pop.new.self.items c.in-Some.choice
-    (subst (AreLeft g.T.PartialEq.eq c.args.events.now c.loop-choice.self.place c.loop-choice.self.configuration) c.in-Some.ensures.items
-    c.loop-choice.invariant.left)
+    (subst (CoverNext g.T.PartialEq.eq c.args.events.now c.loop-choice.self.place c.loop-choice.self.configuration) c.in-Some.ensures.items
+    c.loop-choice.invariant.cover)
     (c.in-Leads.ensures.leads c.in-Leads.new c.in-Leads.at refl
     (subst (λ n. IsDead g.T.PartialEq.eq c.args.events.now n c.in-Leads.new) b
     (subst (λ s. IsDead g.T.PartialEq.eq c.args.events.now at s) a gone)))
@@ -23,9 +23,9 @@ loop-choice-preserved g c = record {
   within = c.loop-choice.invariant.within;
   same_place = c.loop-choice.invariant.same_place;
   same = c.loop-choice.invariant.same;
-  left = fewer g.T.PartialEq.eq c.args.events.now c.loop-choice.self.place c.loop-choice.self.configuration c.pop.new.self.items c.in-Some.choice
-      (subst (AreLeft g.T.PartialEq.eq c.args.events.now c.loop-choice.self.place c.loop-choice.self.configuration) c.in-Some.ensures.items
-      c.loop-choice.invariant.left)
+  cover = fewer g.T.PartialEq.eq c.args.events.now c.loop-choice.self.place c.loop-choice.self.configuration c.pop.new.self.items c.in-Some.choice
+      (subst (CoverNext g.T.PartialEq.eq c.args.events.now c.loop-choice.self.place c.loop-choice.self.configuration) c.in-Some.ensures.items
+      c.loop-choice.invariant.cover)
       (c.in-Spent.ensures.spent refl);
 }
 
@@ -34,8 +34,8 @@ returns-clause-dead g c = λ is.
     let empty : length c.loop-choice.self.choices.items ≡ 0 = omega (arith, c.in_default.ensures.cases, c.loop-choice.self.choices.ok) in
     dead g.T.PartialEq.eq c.args.events.now c.loop-choice.self.place c.loop-choice.self.configuration
     (some_left g.T.PartialEq.eq c.args.events.now c.loop-choice.self.place c.loop-choice.invariant.within)
-    (subst (AreLeft g.T.PartialEq.eq c.args.events.now c.loop-choice.self.place c.loop-choice.self.configuration)
-    (nil_from_length c.loop-choice.self.choices.items empty) c.loop-choice.invariant.left)
+    (subst (CoverNext g.T.PartialEq.eq c.args.events.now c.loop-choice.self.place c.loop-choice.self.configuration)
+    (nil_from_length c.loop-choice.self.choices.items empty) c.loop-choice.invariant.cover)
 
 pub returns-in-Leads-clause-reaches : goal.returns-in-Leads-clause-reaches
 returns-in-Leads-clause-reaches g c = λ choice new at is.

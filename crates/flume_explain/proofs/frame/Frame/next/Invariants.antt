@@ -1,5 +1,5 @@
 use Rattle.std.proofs.Common.{◌≡◌, ◌<◌, length, vec_len}
-use Rattle.flume_explain.specs.Dead.{AreLeft}
+use Rattle.flume_explain.specs.Dead.{CoverNext}
 use Rattle.flume_explain.proofs.frame.Frame.next.Given as goal
 
 -- what may come next is one of the choices that are left
@@ -8,7 +8,7 @@ invariant-loop-choice g l = record {
   within : l.self.place < length l.events;
   same_place : l.self.place ≡ l.fn.self.place;
   same : l.self.configuration ≡ l.fn.self.configuration;
-  left : AreLeft g.T.PartialEq.eq l.events l.self.place l.self.configuration l.self.choices.items;
+  cover : CoverNext g.T.PartialEq.eq l.events l.self.place l.self.configuration l.self.choices.items;
 }
 
 abbrev pub decreases-loop-choice : goal.decreases-loop-choice

@@ -1,6 +1,6 @@
 -- A step takes no event.
 use Rattle.std.proofs.Common.{take}
-use Rattle.flume_explain.proofs.Taken.{taken_step}
+use Rattle.flume_explain.proofs.TakeLemmas.{taken_step}
 use Rattle.flume_explain.proofs.replay.Replay.make_step.Goals as goal
 
 pub returns : goal.returns

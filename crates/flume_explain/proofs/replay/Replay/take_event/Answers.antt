@@ -1,7 +1,7 @@
 -- The event joins the items.
 use Rattle.std.proofs.Common.{◌∙◌, ap, ◌++◌, ◌∷◌, []}
 use Rattle.flume_concurrent.specs.declared.event.Item.TheVariants.{Happens}
-use Rattle.flume_explain.proofs.Taken.{taken_event}
+use Rattle.flume_explain.proofs.TakeLemmas.{taken_event}
 use Rattle.flume_explain.proofs.replay.Replay.take_event.Goals as goal
 
 pub returns : goal.returns

@@ -2,8 +2,8 @@
 use Rattle.std.proofs.Common.{refl, sym, subst, arith}
 use Rattle.flume_explain.specs.Dead.{IsDead}
 use Rattle.flume_explain.specs.Reached.{AreExplained}
-use Rattle.flume_explain.proofs.ReachedEvents.{further_explained, reached_explained}
-use Rattle.flume_explain.proofs.Ways.{way_from}
+use Rattle.flume_explain.proofs.ReachedEventLemmas.{further_explained, reached_explained}
+use Rattle.flume_explain.proofs.FrameLemmas.{way_from}
 use Rattle.flume_explain.proofs.search.Search.enter.Goals as goal
 
 pub returns-in-Stops-clause-goes_on : goal.returns-in-Stops-clause-goes_on

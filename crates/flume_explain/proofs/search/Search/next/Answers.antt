@@ -3,19 +3,19 @@ use Rattle.std.proofs.Common.{◌≡◌, refl, sym, subst, length, arith}
 use Rattle.std.proofs.lemmas.List.{nil_from_length}
 use Rattle.flume_explain.specs.Dead.{IsDead}
 use Rattle.flume_explain.specs.Reached.{IsReached}
-use Rattle.flume_explain.proofs.SearchReaches.{put_back, taken_off}
-use Rattle.flume_explain.proofs.Ways.{search_pop, search_leads, search_dead, search_ends}
+use Rattle.flume_explain.proofs.SearchLemmas.{put_back, taken_off}
+use Rattle.flume_explain.proofs.FrameLemmas.{search_pop, search_leads, search_dead, search_ends}
 use Rattle.flume_explain.proofs.search.Search.next.Goals as goal
 
 pub next-requires-clause-within : goal.next-requires-clause-within
 next-requires-clause-within g c =
-    (search_pop g.T.PartialEq.eq c.args.events.now c.requires.going.0 c.loop-frame.self c.pop.new.self.items c.in-Some.frame c.in-Some.ensures.items
-    (c.loop-frame.invariant.searches c.requires.going.0 c.requires.going.1)).1
+    (search_pop g.T.PartialEq.eq c.args.events.now c.requires.is_search.0 c.loop-frame.self c.pop.new.self.items c.in-Some.frame c.in-Some.ensures.items
+    (c.loop-frame.invariant.searches c.requires.is_search.0 c.requires.is_search.1)).1
 
-pub next-requires-clause-left : goal.next-requires-clause-left
-next-requires-clause-left g c =
-    (search_pop g.T.PartialEq.eq c.args.events.now c.requires.going.0 c.loop-frame.self c.pop.new.self.items c.in-Some.frame c.in-Some.ensures.items
-    (c.loop-frame.invariant.searches c.requires.going.0 c.requires.going.1)).2 tt
+pub next-requires-clause-cover : goal.next-requires-clause-cover
+next-requires-clause-cover g c =
+    (search_pop g.T.PartialEq.eq c.args.events.now c.requires.is_search.0 c.loop-frame.self c.pop.new.self.items c.in-Some.frame c.in-Some.ensures.items
+    (c.loop-frame.invariant.searches c.requires.is_search.0 c.requires.is_search.1)).2 tt
 
 pub returns-in-Ok-clause-leads : goal.returns-in-Ok-clause-leads
 returns-in-Ok-clause-leads g c = λ choice new at is start s.
@@ -32,7 +32,7 @@ pub loop-frame-preserved : goal.loop-frame-preserved
 loop-frame-preserved g c = record {
   searches = λ start s.
       let k = search_dead g.T.PartialEq.eq c.args.events.now start c.loop-frame.self c.pop.new.self.items c.remember.new.self.dead.items c.in-Some.frame c.next.new.self
-      c.in-Some.ensures.items (c.remember.ensures.kept c.if-not-remember.false) c.in-Nowhere.ensures.same_place c.in-Nowhere.ensures.same
+      c.in-Some.ensures.items (c.remember.ensures.added c.if-not-remember.false) c.in-Nowhere.ensures.same_place c.in-Nowhere.ensures.same
       (c.in-Nowhere.ensures.dead refl) (c.loop-frame.invariant.searches start s) in
       record { way = k.0; dead = k.1 };
   reached = λ o s.

@@ -6,9 +6,9 @@ use Rattle.flume_explain.specs.declared.choice.Choice.TheVariants.{TakeEvent, Ma
 use Rattle.flume_explain.specs.Dead.{IsDead}
 use Rattle.flume_explain.specs.Search.{AreOnTheWay, dead_at}
 use Rattle.flume_explain.specs.Reached.{IsReached}
-use Rattle.flume_explain.proofs.Covers.{each_step}
-use Rattle.flume_explain.proofs.ThreadCalls.{call_by-found}
-use Rattle.flume_explain.proofs.Ways.{way_from, way_push, was_pushed}
+use Rattle.flume_explain.proofs.CoverLemmas.{each_step}
+use Rattle.flume_explain.proofs.ThreadCallLemmas.{call_by-found}
+use Rattle.flume_explain.proofs.FrameLemmas.{way_from, way_push, was_pushed}
 use Rattle.flume_explain.proofs.search.Search.stop.Goals as goal
 
 pub returns-then-has-clause-goes_on : goal.returns-then-has-clause-goes_on
@@ -27,8 +27,8 @@ returns-clause-goes_on g c = λ e start s. record {
       (way_push g.T.PartialEq.eq c.args.events.now (IsDead g.T.PartialEq.eq c.args.events.now 0 start) c.args.self.now.frames.items
       (record { configuration = c.args.configuration; place = c.args.place; choices = c.push_first.new.choices; depth = c.len.result }) (Unit {0}) s.way c.requires
       (λ x. each_step g.T.PartialEq.eq c.args.events.now c.args.place c.args.configuration c.push_first.new.choices.items
-      (c.push_first.ensures.kept c.if-not-push_first.false TakeEvent c.in-Some.ensures.event)
-      (λ call other refused among. c.push_first.ensures.kept c.if-not-push_first.false (MakeStep call other refused)
+      (c.push_first.ensures.old_choices c.if-not-push_first.false TakeEvent c.in-Some.ensures.event)
+      (λ call other refused among. c.push_first.ensures.old_choices c.if-not-push_first.false (MakeStep call other refused)
       (c.in-Some.ensures.steps call other refused among)) (λ t one own. call_by-found c.args.events.now t c.args.configuration.calls one own)));
   dead = s.dead;
 }

@@ -2,7 +2,7 @@
 use Rattle.std.proofs.Common.{None, Some, codes, ◌++◌, ◌∷◌, sym, ◌∙◌, ap}
 use Rattle.std.proofs.lemmas.Bool.Decides.{Decides-eqb}
 use Rattle.std.proofs.lemmas.Slice.Eq.{strip_prefix_is, strip_suffix_is}
-use Rattle.flume_history.proofs.PairLines.{arrow, at_arrow, has_hyphen}
+use Rattle.flume_history.proofs.PairLineLemmas.{arrow, at_arrow, has_hyphen}
 use Rattle.flume_history.proofs.script.reading.parts_of.Goals as goal
 
 pub returns-in_err-before-clause-none : goal.returns-in_err-before-clause-none

@@ -1,4 +1,4 @@
-use Rattle.flume_model.proofs.Resized.{stays_bounded_or_not}
+use Rattle.flume_model.proofs.ResizeLemmas.{stays_bounded_or_not}
 use Rattle.flume_model.proofs.laws.capacity.a_channel_stays_bounded_or_unbounded.Goals as goal
 
 pub returns : goal.returns

@@ -1,4 +1,4 @@
-use Rattle.flume_model.proofs.users.Conserving.{conserved}
+use Rattle.flume_model.proofs.users.ConservingLemmas.{conserved}
 use Rattle.flume_model.proofs.laws.users.messages_are_conserved.Goals as goal
 
 pub returns : goal.returns

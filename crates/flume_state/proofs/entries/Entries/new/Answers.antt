@@ -1,4 +1,4 @@
-use Rattle.flume_state.proofs.EntrySorted.{sorted_empty}
+use Rattle.flume_state.proofs.EntrySortedLemmas.{sorted_empty}
 use Rattle.flume_state.proofs.entries.Entries.new.Goals as goal
 
 pub invariant_of-result : goal.invariant_of-result

@@ -1,6 +1,6 @@
 use Rattle.std.proofs.Common.{ap, not, sym, subst}
 use Rattle.flume_state.specs.Receivers.{NoDueReceiver}
-use Rattle.flume_state.proofs.EntryTold.{none_due, one_boundary}
+use Rattle.flume_state.proofs.EntryNotifyLemmas.{none_due, one_boundary}
 use Rattle.flume_state.proofs.entries.Entries.next_due.Goals as goal
 
 pub returns-then-eq-clause-none_due : goal.returns-then-eq-clause-none_due

@@ -1,7 +1,7 @@
 use Rattle.std.proofs.Common.{Some, ap, ap₂, sym, ◌∙◌, option_map}
 use Rattle.flume_state.specs.layout.EntryLayout.{first_waiting}
-use Rattle.flume_state.proofs.EntryParts.{read_some, read_value}
-use Rattle.flume_state.proofs.EntryDues.{nobody_waits, waits_at, waits_first}
+use Rattle.flume_state.proofs.EntryPartLemmas.{read_some, read_value}
+use Rattle.flume_state.proofs.EntryDueLemmas.{nobody_waits, waits_at, waits_first}
 use Rattle.flume_state.proofs.entries.Entries.next_waiting.Goals as goal
 
 pub returns-in_err-place : goal.returns-in_err-place

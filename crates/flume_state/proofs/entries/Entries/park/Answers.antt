@@ -1,6 +1,6 @@
 use Rattle.std.proofs.Common.{arith, refl, ap, ◌∙◌, ◌++◌, ◌∷◌, []}
 use Rattle.flume_state.specs.Receivers.{new_receiver}
-use Rattle.flume_state.proofs.EntrySorted.{entries-append, sorted_push, waits_few}
+use Rattle.flume_state.proofs.EntrySortedLemmas.{entries-append, sorted_push, waits_few}
 use Rattle.flume_state.proofs.entries.Entries.park.Goals as goal
 use Rattle.flume_state.proofs.entries.Entries.park.Goals.{in-Ok, in-Err}
 
@@ -16,6 +16,6 @@ invariant_of-self g c =
 pub returns-clause-parked : goal.returns-clause-parked
 returns-clause-parked g c = elim c.match-insert.branch [
   | in-Ok w ↦ rw (w.result-is, w.self-is, w.in-Ok.ensures.inserted)
-      (entries-append c.self.inside.chain.items _ ∙ ap (λ l. l ++ new_receiver c.args.ticket c.args.kind c.args.signal ∷ []) c.self.view_is)
+      (entries-append c.self.inside.chain _ ∙ ap (λ l. l ++ new_receiver c.args.ticket c.args.kind c.args.signal ∷ []) c.self.view_is)
   | in-Err w ↦ rw w.result-is tt
 ]

@@ -2,9 +2,9 @@ use Rattle.std.proofs.Common.{arith, ap, sym, ◌∙◌}
 use Rattle.flume_model.specs.Entries.{is_waiting, held_by, held_in, entry_of, without_ticket}
 use Rattle.flume_state.specs.layout.EntryLayout.{entries_in}
 use Rattle.flume_state.proofs.EntryListLemmas.{not_waiting}
-use Rattle.flume_state.proofs.EntryParts.{read_some, read_value, without_written}
-use Rattle.flume_state.proofs.EntrySeats.{nobody, seat_without, seated, without_none_of}
-use Rattle.flume_state.proofs.EntrySorted.{one_waits, sorted_without}
+use Rattle.flume_state.proofs.EntryPartLemmas.{read_some, read_value, without_written}
+use Rattle.flume_state.proofs.EntrySeatLemmas.{nobody, seat_without, seated, without_none_of}
+use Rattle.flume_state.proofs.EntrySortedLemmas.{one_waits, sorted_without}
 use Rattle.flume_state.proofs.entries.Entries.remove.Goals as goal
 use Rattle.flume_state.proofs.entries.Entries.remove.Goals.{in-Waiting, in_default}
 
@@ -39,7 +39,7 @@ invariant_of-self-in-Waiting g c =
     let s = seated _ c.args.ticket _ c.self.invariant.apart (sym c.in_ok-place.ensures.place) in
     let mark = c.replace-mark.ensures.value ∙ ap (λ p. p.mark) (read_value _ _ _ _ s.here c.in_ok-parked.ensures.value) in
     let waits = ap is_waiting (sym mark) ∙ ap is_waiting c.in-Waiting.is in
-    let left = c.discard.ensures.left ∙ without_written c.self.inside.chain.items c.in_ok-place.place _ in
+    let left = c.discard.ensures.removed ∙ without_written c.self.inside.chain c.in_ok-place.place _ in
     rw (left, c.boundary_without-self-inside.ensures.boundary, c.boundary_without-self-inside-2.ensures.boundary)
     (sorted_without _ _ _ _ _ _ _ _ c.self.invariant s.here c.next-next.ensures.next
     (rw waits (omega (arith, one_waits _ _ _ _ _ _ c.self.invariant s.here waits))))
@@ -49,7 +49,7 @@ invariant_of-self-in_default g c =
     let s = seated _ c.args.ticket _ c.self.invariant.apart (sym c.in_ok-place.ensures.place) in
     let mark = c.replace-mark.ensures.value ∙ ap (λ p. p.mark) (read_value _ _ _ _ s.here c.in_ok-parked.ensures.value) in
     let awake = ap is_waiting (sym mark) ∙ not_waiting _ c.in_default.not-Waiting in
-    let left = c.discard.ensures.left ∙ without_written c.self.inside.chain.items c.in_ok-place.place _ in
+    let left = c.discard.ensures.removed ∙ without_written c.self.inside.chain c.in_ok-place.place _ in
     rw (left, c.boundary_without-self-inside.ensures.boundary, c.boundary_without-self-inside-2.ensures.boundary)
     (sorted_without _ _ _ _ _ _ _ _ c.self.invariant s.here c.next-next.ensures.next (rw awake (omega arith)))
 
@@ -63,7 +63,7 @@ returns-clause-held g c =
 pub returns-clause-removed : goal.returns-clause-removed
 returns-clause-removed g c =
     let s = seated _ c.args.ticket _ c.self.invariant.apart (sym c.in_ok-place.ensures.place) in
-    let left = ap entries_in (c.discard.ensures.left ∙ without_written c.self.inside.chain.items c.in_ok-place.place _)
+    let left = ap entries_in (c.discard.ensures.removed ∙ without_written c.self.inside.chain c.in_ok-place.place _)
     ∙ seat_without _ _ _ s ∙ ap (without_ticket c.args.ticket) c.self.view_is in
     elim c.match-mark.branch [
       | in-Waiting w ↦ rw w.self-is left

@@ -1,7 +1,7 @@
 use Rattle.std.proofs.Common.{Some, ap, sym, ◌∙◌, option_map, option_copied}
 use Rattle.flume_model.specs.Entries.{entry_of}
-use Rattle.flume_state.proofs.EntryParts.{read_some, read_value}
-use Rattle.flume_state.proofs.EntrySeats.{nobody, seated}
+use Rattle.flume_state.proofs.EntryPartLemmas.{read_some, read_value}
+use Rattle.flume_state.proofs.EntrySeatLemmas.{nobody, seated}
 use Rattle.flume_state.proofs.entries.Entries.signal.Goals as goal
 
 pub returns-in_err-place : goal.returns-in_err-place

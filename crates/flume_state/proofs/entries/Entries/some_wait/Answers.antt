@@ -6,5 +6,5 @@ use Rattle.flume_state.proofs.entries.Entries.some_wait.Goals as goal
 
 pub returns : goal.returns
 returns g c = record {
-  some = ap (ltb 0) c.self.invariant.count ∙ some_wait_counted (entries_in c.self.inside.chain.items) ∙ ap some_wait c.self.view_is;
+  some = ap (ltb 0) c.self.invariant.count ∙ some_wait_counted (entries_in c.self.inside.chain) ∙ ap some_wait c.self.view_is;
 }

@@ -1,7 +1,7 @@
 use Rattle.std.proofs.Common.{ap, not, sym, subst}
 use Rattle.flume_state.specs.Receivers.{NoDueReceiver}
-use Rattle.flume_state.proofs.EntryParts.{read_some, read_value}
-use Rattle.flume_state.proofs.EntryTold.{dues_at, none_due, one_boundary, sorted_told, tells, two_boundaries}
+use Rattle.flume_state.proofs.EntryPartLemmas.{read_some, read_value}
+use Rattle.flume_state.proofs.EntryNotifyLemmas.{dues_at, none_due, one_boundary, sorted_told, tells, two_boundaries}
 use Rattle.flume_state.proofs.entries.Entries.take_first_due.Goals as goal
 
 pub returns-then-eq-clause-none_due : goal.returns-then-eq-clause-none_due

@@ -1,7 +1,7 @@
 use Rattle.std.proofs.Common.{◌≡◌, ap, arith, sym, ◌∙◌}
 use Rattle.flume_model.specs.Entries.{all_woken, waiting_count}
 use Rattle.flume_state.specs.Notices.{due_now}
-use Rattle.flume_state.proofs.EntryRounds.{all_idle, all_on, fewer_of}
+use Rattle.flume_state.proofs.EntryRoundLemmas.{all_idle, all_on, fewer_of}
 use Rattle.flume_state.proofs.entries.Entries.wake_all.Goals as goal
 
 pub loop-self-smaller : goal.loop-self-smaller

@@ -2,8 +2,8 @@ use Rattle.std.proofs.Common.{ap, sym, ◌∙◌}
 use Rattle.flume_state.specs.Notices.{due_now}
 use Rattle.flume_state.specs.layout.EntryLayout.{entries_in, with_first_marked}
 use Rattle.flume_chain.specs.ChangedAt.{with_value_at}
-use Rattle.flume_state.proofs.EntryParts.{read_some, read_value}
-use Rattle.flume_state.proofs.EntryDues.{nobody_marked, sorted_woken, waits_at, waits_some, woken_entries, woken_value}
+use Rattle.flume_state.proofs.EntryPartLemmas.{read_some, read_value}
+use Rattle.flume_state.proofs.EntryDueLemmas.{nobody_marked, sorted_woken, waits_at, waits_some, woken_entries, woken_value}
 use Rattle.flume_state.proofs.entries.Entries.wake_next.Goals as goal
 
 pub returns-in_default : goal.returns-in_default
@@ -31,6 +31,6 @@ returns g c =
     let w = waits_at _ _ _ _ _ c.self.invariant c.in-Some.is in
     let value = read_value _ _ _ _ w.here c.in-Some-get_mut.ensures.value in
     record {
-      woken = ap (λ p. entries_in (with_value_at c.in-Some.place c.self.inside.chain.items (woken_value c.args.mark p))) value
+      woken = ap (λ p. entries_in (with_value_at c.in-Some.place c.self.inside.chain (woken_value c.args.mark p))) value
           ∙ woken_entries _ _ _ _ _ c.args.mark c.self.invariant w ∙ ap (with_first_marked due_now c.args.mark) c.self.view_is;
     }

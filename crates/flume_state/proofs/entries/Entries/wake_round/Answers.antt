@@ -1,7 +1,7 @@
 use Rattle.std.proofs.Common.{Some, ap, sym, ◌∙◌}
 use Rattle.flume_state.specs.Notices.{due_now}
-use Rattle.flume_state.proofs.EntryRounds.{fewer_wait}
-use Rattle.flume_state.proofs.EntryWakes.{wakes_first, wakes_stream, woke_block, woke_over, woke_plain}
+use Rattle.flume_state.proofs.EntryRoundLemmas.{fewer_wait}
+use Rattle.flume_state.proofs.EntryWakeLemmas.{wakes_first, wakes_stream, woke_block, woke_over, woke_plain}
 use Rattle.flume_state.proofs.entries.Entries.wake_round.Goals as goal
 
 pub loop-ticket-init : goal.loop-ticket-init

@@ -1,6 +1,6 @@
 use Rattle.flume_model.specs.Entries.{waiting_count}
 use Rattle.flume_state.specs.Notices.{due_now}
-use Rattle.flume_state.proofs.EntryWakes.{Wakes}
+use Rattle.flume_state.proofs.EntryWakeLemmas.{Wakes}
 use Rattle.flume_state.proofs.entries.Entries.wake_round.Given as goal
 
 abbrev pub invariant-loop-ticket : goal.invariant-loop-ticket

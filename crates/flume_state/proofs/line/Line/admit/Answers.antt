@@ -1,4 +1,4 @@
-use Rattle.flume_state.proofs.Pairs.{admits}
+use Rattle.flume_state.proofs.PairLemmas.{admits}
 use Rattle.flume_state.proofs.line.Line.admit.Goals as goal
 
 pub invariant_of-self-2 : goal.invariant_of-self-2

@@ -1,7 +1,7 @@
 use Rattle.std.proofs.Common.{ap, ◌∙◌, option_map}
 use Rattle.std.specs.FinMap.{remove}
-use Rattle.flume_state.proofs.Pairs.{blocks, keeps, undone, at_one, removed_at, line_of}
-use Rattle.flume_state.proofs.SendsLaws.{remove-insert}
+use Rattle.flume_state.proofs.PairLemmas.{blocks, keeps, undone, at_one, removed_at, line_of}
+use Rattle.flume_state.proofs.SendMapLemmas.{remove-insert}
 use Rattle.flume_state.proofs.line.Line.block.Goals as goal
 
 pub invariant_of-self-in-Ok-push_blocked : goal.invariant_of-self-in-Ok-push_blocked

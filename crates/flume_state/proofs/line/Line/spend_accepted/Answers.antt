@@ -1,7 +1,7 @@
 use Rattle.std.proofs.Common.{◌≡◌, Some, true, sym, ap, ◌∙◌, option_map}
 use Rattle.std.specs.FinMap.{get}
 use Rattle.flume_state.specs.layout.Pairing.{link_at}
-use Rattle.flume_state.proofs.Pairs.{spends, removed_at}
+use Rattle.flume_state.proofs.PairLemmas.{spends, removed_at}
 use Rattle.flume_state.proofs.line.Line.spend_accepted.Goals as goal
 
 pub returns-in-Some : goal.returns-in-Some

@@ -1,4 +1,4 @@
-use Rattle.flume_state.proofs.Pairs.{none_under, is_blocked, withdraws}
+use Rattle.flume_state.proofs.PairLemmas.{none_under, is_blocked, withdraws}
 use Rattle.flume_state.proofs.line.Line.withdraw.Goals as goal
 
 pub returns-in_err-send_place-clause-absent : goal.returns-in_err-send_place-clause-absent

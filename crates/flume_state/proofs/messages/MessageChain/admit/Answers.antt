@@ -1,8 +1,8 @@
 use Rattle.std.proofs.Common.{◌≡◌, ◌-◌, Some, None, refl, sym, ap, subst, ◌∙◌}
 use Rattle.flume_chain.specs.ChangedAt.{with_label_at}
 use Rattle.flume_state.specs.layout.MessageLayout.{AdmitsSend, messages_of, space_of}
-use Rattle.flume_state.proofs.MessageSpace.{space_released}
-use Rattle.flume_state.proofs.MessageSteps.{Admitted, admitted}
+use Rattle.flume_state.proofs.MessageSpaceLemmas.{space_released}
+use Rattle.flume_state.proofs.MessageStepLemmas.{Admitted, admitted}
 use Rattle.flume_state.proofs.messages.MessageChain.admit.Given.{Over}
 use Rattle.flume_state.proofs.messages.MessageChain.admit.Goals as goal
 

@@ -1,4 +1,4 @@
-use Rattle.flume_state.proofs.Withdrawals.{blocked_apart}
+use Rattle.flume_state.proofs.WithdrawalLemmas.{blocked_apart}
 use Rattle.flume_state.proofs.messages.MessageChain.facts.Goals as goal
 
 pub returns : goal.returns

@@ -2,7 +2,7 @@
 use Rattle.std.proofs.Common.{ap, arith}
 use Rattle.flume_state.specs.Effects.{with_all_due}
 use Rattle.flume_state.specs.layout.Pairing.{live_sends, under_tickets}
-use Rattle.flume_state.proofs.MessageMarks.{Marks, Stepped, left_from, walk_begins, walk_steps, walk_ends}
+use Rattle.flume_state.proofs.MessageMarkLemmas.{Marks, Stepped, left_from, walk_begins, walk_steps, walk_ends}
 use Rattle.flume_state.proofs.messages.MessageChain.mark_blocked.Given.{Over}
 use Rattle.flume_state.proofs.messages.MessageChain.mark_blocked.Goals as goal
 use Rattle.flume_state.proofs.messages.MessageChain.mark_blocked.Goals.{in-Some-send_place_at, in_default-send_place_at}

@@ -1,6 +1,6 @@
 use Rattle.flume_state.specs.Effects.{with_all_due}
 use Rattle.flume_state.specs.layout.Pairing.{live_sends, under_tickets}
-use Rattle.flume_state.proofs.MessageMarks.{Walks, left_from}
+use Rattle.flume_state.proofs.MessageMarkLemmas.{Walks, left_from}
 use Rattle.flume_state.proofs.messages.MessageChain.mark_blocked.Given as goal
 
 abbrev pub invariant-loop-next : goal.invariant-loop-next

@@ -1,8 +1,8 @@
 use Rattle.std.proofs.Common.{None, sym, ap, arith, length, ◌∙◌, option_and_then}
 use Rattle.flume_state.proofs.MessageLemmas.{counts}
-use Rattle.flume_state.proofs.MessageSpace.{length-put}
-use Rattle.flume_state.proofs.MessageSteps.{blocks}
-use Rattle.flume_state.proofs.Withdrawals.{absent}
+use Rattle.flume_state.proofs.MessageSpaceLemmas.{length-put}
+use Rattle.flume_state.proofs.MessageStepLemmas.{blocks}
+use Rattle.flume_state.proofs.WithdrawalLemmas.{absent}
 use Rattle.flume_state.proofs.messages.MessageChain.push_blocked.Goals as goal
 
 pub overflow_sub-self : goal.overflow_sub-self

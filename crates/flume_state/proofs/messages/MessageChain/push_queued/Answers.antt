@@ -1,7 +1,7 @@
 use Rattle.std.proofs.Common.{◌≡◌, false, true, ap, length, ◌∙◌}
 use Rattle.flume_state.specs.layout.MessageLayout.{space_of}
-use Rattle.flume_state.proofs.MessageSpace.{grows, has_room, length-put}
-use Rattle.flume_state.proofs.MessageSteps.{queues}
+use Rattle.flume_state.proofs.MessageSpaceLemmas.{grows, has_room, length-put}
+use Rattle.flume_state.proofs.MessageStepLemmas.{queues}
 use Rattle.flume_state.proofs.messages.MessageChain.push_queued.Goals as goal
 
 pub returns-in-Err-clause-succeeds : goal.returns-in-Err-clause-succeeds
@@ -22,6 +22,6 @@ pub returns-clause-space : goal.returns-clause-space
 returns-clause-space g c =
     let e = c.in_default.ensures in
     let long = ap length e.inserted ∙ length-put _ _ _ in
-    let more = grows c.self.inside.chain c.push.new.chain e.room long in
+    let more = grows c.self.inside.chain c.insert_before.new.self e.room long in
     let space : space_of c.self.inside.chain ≡ c.args.self.now.space = ap (λ l. l.space) c.self.view_is in
     rw (← space) more

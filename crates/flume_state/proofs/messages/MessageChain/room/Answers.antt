@@ -1,5 +1,5 @@
 use Rattle.std.proofs.Common.{ap, arith}
-use Rattle.flume_state.proofs.MessageSpace.{total}
+use Rattle.flume_state.proofs.MessageSpaceLemmas.{total}
 use Rattle.flume_state.proofs.messages.MessageChain.room.Goals as goal
 
 pub returns : goal.returns

@@ -1,7 +1,7 @@
 use Rattle.std.proofs.Common.{◌≡◌, ◌∷◌, ap, sym, ◌∙◌}
 use Rattle.flume_state.specs.layout.MessageLayout.{messages_of, queued_of, space_of}
-use Rattle.flume_state.proofs.MessageSpace.{space_behind}
-use Rattle.flume_state.proofs.MessageSteps.{Takes, takes}
+use Rattle.flume_state.proofs.MessageSpaceLemmas.{space_behind}
+use Rattle.flume_state.proofs.MessageStepLemmas.{Takes, takes}
 use Rattle.flume_state.proofs.messages.MessageChain.take_queued.Given.{Over}
 use Rattle.flume_state.proofs.messages.MessageChain.take_queued.Goals as goal
 

@@ -1,7 +1,7 @@
 use Rattle.std.proofs.Common.{◌≡◌, ◌-◌, sym, ap, subst, ◌∙◌, option_and_then}
 use Rattle.flume_state.specs.layout.MessageLayout.{TakesOut, messages_of, space_of}
-use Rattle.flume_state.proofs.MessageSpace.{space_without}
-use Rattle.flume_state.proofs.Withdrawals.{Withdrawn, absent, some_holds, withdraws}
+use Rattle.flume_state.proofs.MessageSpaceLemmas.{space_without}
+use Rattle.flume_state.proofs.WithdrawalLemmas.{Withdrawn, absent, some_holds, withdraws}
 use Rattle.flume_state.proofs.messages.MessageChain.withdraw.Given.{Over}
 use Rattle.flume_state.proofs.messages.MessageChain.withdraw.Goals as goal
 

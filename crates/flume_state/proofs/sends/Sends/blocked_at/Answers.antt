@@ -1,8 +1,8 @@
 use Rattle.std.proofs.Common.{option_map, ◌≡◌, Some, sym, ap, ◌∙◌}
 use Rattle.flume_state.specs.layout.Pairing.{Link, link_of, link_at}
-use Rattle.flume_state.proofs.ByTicket.{found_somewhere}
-use Rattle.flume_state.proofs.ByTicket.{under}
-use Rattle.flume_state.proofs.Links.{seat_at, link_nowhere, link_where}
+use Rattle.flume_state.proofs.ByTicketLemmas.{found_somewhere}
+use Rattle.flume_state.proofs.ByTicketLemmas.{under}
+use Rattle.flume_state.proofs.LinkLemmas.{seat_at, link_nowhere, link_where}
 use Rattle.flume_state.proofs.sends.Sends.blocked_at.Goals as goal
 
 pub returns-in_err-place-clause-absent : goal.returns-in_err-place-clause-absent
@@ -15,7 +15,7 @@ returns-in_err-placed-clause-absent g c =
 
 pub returns-then-placed-clause-absent : goal.returns-then-placed-clause-absent
 returns-then-placed-clause-absent g c = rw (sym c.self.view_is) (λ k l is same.
-    let items = c.self.inside.chain.items in
+    let items = c.self.inside.chain in
     let at = sym c.find.ensures.place ∙ c.in_ok-place.was in
     let s = seat_at items c.in_ok-place.place c.args.ticket _ c.facts.ensures.apart c.facts.ensures.single at c.in_ok-placed.ensures.found in
     let here = link_where items c.args.ticket k _ l c.facts.ensures.apart c.facts.ensures.single at is same in

@@ -1,5 +1,5 @@
 use Rattle.std.proofs.Common.{sym}
-use Rattle.flume_state.proofs.Links.{named}
+use Rattle.flume_state.proofs.LinkLemmas.{named}
 use Rattle.flume_state.proofs.sends.Sends.find.Goals as goal
 
 pub returns : goal.returns

@@ -1,5 +1,5 @@
 use Rattle.std.proofs.Common.{sym}
-use Rattle.flume_state.proofs.SendSteps.{none_first}
+use Rattle.flume_state.proofs.SendStepLemmas.{none_first}
 use Rattle.flume_state.proofs.sends.Sends.next_due.Goals as goal
 
 pub returns-in-None-clause-none_due : goal.returns-in-None-clause-none_due

@@ -2,9 +2,9 @@ use Rattle.std.proofs.Common.{refl, sym}
 use Rattle.flume_state.specs.Notices.{no_longer_due}
 use Rattle.flume_state.specs.Sends.{with_notice}
 use Rattle.flume_state.specs.layout.Pairing.{sends_in}
-use Rattle.flume_state.proofs.SendSteps.{none_first}
-use Rattle.flume_state.proofs.FirstDue.{told_kept, told_due}
-use Rattle.flume_state.proofs.Links.{due_found, after_written, written_sends, first_sent, seat, live_written, link_kept}
+use Rattle.flume_state.proofs.SendStepLemmas.{none_first}
+use Rattle.flume_state.proofs.FirstDueLemmas.{told_kept, told_due}
+use Rattle.flume_state.proofs.LinkLemmas.{due_found, after_written, written_sends, first_sent, seat, live_written, link_kept}
 use Rattle.flume_state.proofs.sends.Sends.take_first_due.Goals as goal
 
 pub returns-in_err-place-clause-none_due : goal.returns-in_err-place-clause-none_due
@@ -17,7 +17,7 @@ returns-in_err-ticket-clause-none_due g c =
 
 pub invariant_of-self-2 : goal.invariant_of-self-2
 invariant_of-self-2 g c =
-    let items = c.self.inside.chain.items in
+    let items = c.self.inside.chain in
     let f = first_sent items _ c.in_ok-ticket.ticket c.in_ok-place.place _ c.self.invariant c.in_ok-place.was
     c.facts.ensures.apart c.facts.ensures.single c.in_ok-ticket.ensures.ticket c.in_ok-placed.ensures.value in
     rw (c.next-self-inside.ensures.next, after_written items c.in_ok-place.place _, written_sends items c.in_ok-place.place _)

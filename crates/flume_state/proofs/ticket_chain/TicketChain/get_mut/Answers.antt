@@ -1,4 +1,4 @@
-use Rattle.flume_state.proofs.TicketEdits.{written_agrees}
+use Rattle.flume_state.proofs.TicketEditLemmas.{written_agrees}
 use Rattle.flume_state.proofs.ticket_chain.TicketChain.get_mut.Goals as goal
 
 pub invariant_of-self-lent : goal.invariant_of-self-lent

@@ -1,4 +1,4 @@
-use Rattle.flume_state.proofs.TicketEdits.{moved_agrees}
+use Rattle.flume_state.proofs.TicketEditLemmas.{moved_agrees}
 use Rattle.flume_state.proofs.ticket_chain.TicketChain.move_back.Goals as goal
 
 pub invariant_of-self : goal.invariant_of-self

@@ -6,8 +6,8 @@ use Rattle.parallel_map.proofs.ReceivedLemmas.{past_end, no_job, its_job, full, 
 use Rattle.parallel_map.proofs.slots.Slots.look.Goals.{then-number-self-via-then-number-self, then-number-self-via-else-number-self+then-ne}
 use Rattle.parallel_map.proofs.slots.Slots.look.Goals as goal
 
-pub returns-then-number-self-clause-refused : goal.returns-then-number-self-clause-refused
-returns-then-number-self-clause-refused g c =
+pub returns-then-number-self-clause-is_refused : goal.returns-then-number-self-clause-is_refused
+returns-then-number-self-clause-is_refused g c =
     elim c.then-number-self.branch [
       | then-number-self-via-then-number-self w ↦ NoJob (past_end _ _ _ w.if-number-self.true)
       | then-number-self-via-else-number-self+then-ne w ↦
@@ -15,8 +15,8 @@ returns-then-number-self-clause-refused g c =
           (sym w.ne.ensures ∙ w.if-ne.true))
     ]
 
-pub returns-then-is_some-clause-refused : goal.returns-then-is_some-clause-refused
-returns-then-is_some-clause-refused g c =
+pub returns-then-is_some-clause-is_refused : goal.returns-then-is_some-clause-is_refused
+returns-then-is_some-clause-is_refused g c =
     let long = c.args.self.now.right_values.each ∙ length-map c.args.self.now.jobs.now g.W.Work.meaning in
     let within : c.args.number < length c.args.self.now.values.items = omega (arith, long, c.if-number-self.false) in
     NotEmpty

@@ -37,7 +37,7 @@ use denote.RawPtr.{block_ptr}
 use denote.Builtin.{usize, RefOf}
 use denote.Triple.Call.{calls_at}
 use Rattle.std.proofs.alloc.Calls.{Al, α, seen, Answer, answer_val, Answer-typed, Answer-Ok, Answer-err, takes_key, Takes, at_takes, Answered, Takes-goes, Takes-gives, answers}
-use Rattle.test_support.proofs.Refused.{Blocks, Tick, at_tick, Tick-goes, Tick-gives}
+use Rattle.test_support.proofs.RefusedLemmas.{Blocks, Tick, at_tick, Tick-goes, Tick-gives}
 use Rattle.test_support.proofs.counting.refused.Symbol as c_sym
 use Rattle.test_support.proofs.counting.refused.Met as c_met
 use Rattle.test_support.specs.contracts.counting.Counting as wrapper

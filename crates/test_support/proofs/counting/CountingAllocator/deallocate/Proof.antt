@@ -38,7 +38,7 @@ use denote.RawPtr.{Ptr, block_ptr, null_ptr, ptr_val, rawptr_vals, rawptr_Tells}
 use denote.Builtin.{usize, RawPtr, RefOf}
 use denote.Triple.Call.{calls_at}
 use Rattle.std.proofs.alloc.Calls.{Al, α, seen, token, gives_key, Gives, at_gives, Gives-goes, Gives-Gives}
-use Rattle.test_support.proofs.CountDown.{Blocks, Tick, at_tick, Tick-goes, Tick-gives}
+use Rattle.test_support.proofs.CountDownLemmas.{Blocks, Tick, at_tick, Tick-goes, Tick-gives}
 use Rattle.test_support.proofs.counting.count_down.Symbol as c_sym
 use Rattle.test_support.proofs.counting.count_down.Met as c_met
 use Rattle.test_support.specs.contracts.counting.Counting as wrapper

@@ -3,24 +3,24 @@ use Rattle.std.proofs.Common.{◌≡◌, Some, Ok, ◌∙◌, rules}
 use Rattle.flume.proofs.ManySendLemmas.{poll_end, finished_poll_leaves, sent_poll_leaves, next_leaves}
 use Rattle.flume.proofs.polled.sink.SendSink.poll_send_many.Goals as goal
 
-pub returns-in-Some-clause-left : goal.returns-in-Some-clause-left
-returns-in-Some-clause-left g c = poll_end _ _ _ _ c.loop-answer.invariant.leaves
+pub returns-in-Some-clause-rest : goal.returns-in-Some-clause-rest
+returns-in-Some-clause-rest g c = poll_end _ _ _ _ c.loop-answer.invariant.leaves
 
-pub returns-in-None-clause-left : goal.returns-in-None-clause-left
-returns-in-None-clause-left g c = poll_end _ _ _ _ c.loop-answer.invariant.leaves
+pub returns-in-None-clause-rest : goal.returns-in-None-clause-rest
+returns-in-None-clause-rest g c = poll_end _ _ _ _ c.loop-answer.invariant.leaves
 
 pub loop-answer-preserved : goal.loop-answer-preserved
 loop-answer-preserved g c =
     let ok : c.loop-answer.answer ≡ Some (Ok tt) = search rules in
-    let kept = c.args.self.now.kept.send in
+    let send = c.args.self.now.future.send in
     let all = c.args.messages.now.items in
     let now = c.loop-answer.messages.items in
     let next = c.poll_sends-answer-in-loop-answer.new.messages.items in
     let result = c.poll_sends-answer-in-loop-answer.result in
     let over = c.loop-answer.invariant.finished (Ok tt) ok in
-    let leaves = finished_poll_leaves c.loop-answer.self.kept.send now next result over c.poll_sends-answer-in-loop-answer.ensures.leaves in
+    let leaves = finished_poll_leaves c.loop-answer.self.future.send now next result over c.poll_sends-answer-in-loop-answer.ensures.leaves in
     record {
-      leaves = sent_poll_leaves kept all next result (next_leaves all now next result (poll_end _ _ _ _ c.loop-answer.invariant.leaves) leaves);
+      leaves = sent_poll_leaves send all next result (next_leaves all now next result (poll_end _ _ _ _ c.loop-answer.invariant.leaves) leaves);
       finished = c.poll_sends-answer-in-loop-answer.ensures.finished;
       parked = c.poll_sends-answer-in-loop-answer.ensures.parked;
       sender = c.poll_sends-answer-in-loop-answer.ensures.sender ∙ c.loop-answer.invariant.sender;

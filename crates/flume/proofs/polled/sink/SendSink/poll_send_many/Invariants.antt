@@ -7,11 +7,11 @@ use Rattle.flume.proofs.polled.sink.SendSink.poll_send_many.Given as goal
 -- what the polls so far leave of the list, and that of the last one is answered
 abbrev pub invariant-loop-answer : goal.invariant-loop-answer
 invariant-loop-answer g l = record {
-  leaves : PollLeaves l.fn.self.kept.send l.fn.messages.items l.messages.items l.answer;
-  finished : (answer : _) → l.answer ≡ Some answer → l.self.kept.send ≡ Finished;
-  parked : l.answer ≡ None → (ticket : ℕ) × (l.self.kept.send ≡ Parked ticket);
-  sender : l.self.kept.sender ≡ l.fn.self.kept.sender;
-  registered : l.answer ≡ None → Covers l.cx (λ source. source ≡ l.self.kept.task.source.id);
+  leaves : PollLeaves l.fn.self.future.send l.fn.messages.items l.messages.items l.answer;
+  finished : (answer : _) → l.answer ≡ Some answer → l.self.future.send ≡ Finished;
+  parked : l.answer ≡ None → (ticket : ℕ) × (l.self.future.send ≡ Parked ticket);
+  sender : l.self.future.sender ≡ l.fn.self.future.sender;
+  registered : l.answer ≡ None → Covers l.cx (λ source. source ≡ l.self.future.task.source.id);
   kept : Keeps l.fn.cx l.cx;
 }
 

@@ -61,7 +61,7 @@ returns-in-NoTicket-clause-does g c = rw (← c.call.view_is) (
 )
 
 pub returns-in-NoTicket-poll_send-clause-does : goal.returns-in-NoTicket-poll_send-clause-does
-returns-in-NoTicket-poll_send-clause-does g c = rw (← c.call-else-late.view_is) (
+returns-in-NoTicket-poll_send-clause-does g c = rw (← c.call-else-last.view_is) (
   (let said = c.in-NoTicket-poll_send.ensures in
       let made = asked said.step said.becomes_due said.possible_reply said.space said.unchanged in search rules),
   record {
@@ -71,7 +71,7 @@ returns-in-NoTicket-poll_send-clause-does g c = rw (← c.call-else-late.view_is
     no_ticket = search rules;
     taken_in = λ reachable _.
         let run = rw c.in-NoTicket-poll_send.is at (c.poll_send.ensures.step reachable.0 reachable.1 reachable.2).run.0 in
-        unblocked _ _ _ run (reachable.2.sends_are c.call-else-late.inside.ticket);
+        unblocked _ _ _ run (reachable.2.sends_are c.call-else-last.inside.ticket);
     timeout = search rules;
     disconnected = search rules;
   },

@@ -5,7 +5,7 @@ use Rattle.std.specs.Vec.{vec_len, with_item}
 use Rattle.flume_chain.specs.declared.chain.node.Node.{Node}
 use Rattle.flume_chain.specs.declared.labelled.LabelledValue.{LabelledValue}
 use Rattle.flume_chain.specs.Links.{no_node, element_of, with_value_of}
-use Rattle.flume_chain.proofs.Writes.{node_below}
+use Rattle.flume_chain.proofs.WriteLemmas.{node_below}
 use Rattle.flume_chain.proofs.chain.links.Links.value_mut.Goals as goal
 
 pub returns : goal.returns
