@@ -31,6 +31,7 @@ const RECENT: u64 = 8;
 // More tickets than two threads are issued.
 const TICKETS: usize = 2 * STEPS;
 
+// How many steps follow those of the threads.
 const LAST_STEPS: usize = 2 * TICKETS + 11;
 
 // How often replies to random steps begin so at least.
@@ -56,21 +57,25 @@ const LEAST: &[(&str, u64)] = &[
 
 type ReturnedSeats<L> = Mutex<Vec<Seat<u64, L>>>;
 
-// A capacity, how many steps each thread makes, and a seed. With the seed 0 each sends and tries to
-// receive in turn; else it makes random steps.
-type Plan = (Option<usize>, usize, u64);
+// With the seed 0 each thread sends and tries to receive in turn; else it makes random steps.
+#[derive(Clone, Copy, Drop)]
+struct Plan {
+    capacity: Option<usize>,
+    steps: usize,
+    seed: u64,
+}
 
 // Of eight random steps one sets a capacity from 0 to 4, and three withdraw.
-fn step_of(seed: u64, random_steps: &mut RandomSteps, number: usize) -> Step<u64> {
+fn step_of(plan: Plan, random_steps: &mut RandomSteps, number: usize) -> Step<u64> {
     let last = random_steps.last_ticket;
-    match (seed, number % 8) {
+    match (plan.seed, number % 8) {
         (0, number) if number % 2 == 0 => Step::TrySend(number as u64),
         (0, _) => Step::TryRecv,
         (_, 3) => Step::SetCapacity(number / 8 % 5),
         (_, 1 | 5) => Step::Withdraw(last.saturating_sub(number as u64 / 8 % RECENT)),
         (_, 7) => Step::WithdrawSend(last.saturating_sub(number as u64 / 8 % RECENT)),
         _ => match random_steps.step() {
-            Step::Recv(_) if seed % 4 == 3 => Step::Send(number as u64),
+            Step::Recv(_) if plan.seed % 4 == 3 => Step::Send(number as u64),
             step => with_recent_ticket(step, last),
         },
     }
@@ -97,9 +102,8 @@ fn make_steps<L: Ledger, R: Wait + Copy>(
     (plan, mut random_steps): (Plan, RandomSteps),
     returned: &ReturnedSeats<L>,
 ) {
-    let (_, steps, seed) = plan;
-    for number in 0..steps {
-        match audit.step(&mut seat, step_of(seed, &mut random_steps, number)) {
+    for number in 0..plan.steps {
+        match audit.step(&mut seat, step_of(plan, &mut random_steps, number)) {
             Ok(Reply::Pending(ticket) | Reply::Parked(ticket)) => random_steps.last_ticket = ticket,
             Ok(_) => {}
             Err(_) => return,
@@ -108,6 +112,7 @@ fn make_steps<L: Ledger, R: Wait + Copy>(
     let _ = returned.lock(&rt).push(seat);
 }
 
+// Runs a thread for each seat, with a seed of its own. False: one can't be started.
 fn run_threads<L, R>(
     rt: R,
     audit: &Audit<u64, L, R>,
@@ -120,7 +125,7 @@ where
     R: Wait + Threads + Copy + Send + Sync,
 {
     thread::scope(thread::scope_env(), &rt, |scope| {
-        let (_, _, mut state) = plan;
+        let mut state = plan.seed;
         for seat in seats {
             state = state.wrapping_add(1);
             let random_steps = RandomSteps::from_seed(state);
@@ -158,6 +163,7 @@ fn last_step(number: usize, last: u64) -> Step<u64> {
     }
 }
 
+// Makes the last steps with the first seat. False: one was refused.
 fn make_last_steps<L: Ledger, R: Wait + Copy>(
     audit: &Audit<u64, L, R>,
     seats: &mut Vec<Seat<u64, L>>,
@@ -196,22 +202,21 @@ where
     requires one_each { blank.parts ≡ threads }
     requires some { 0 < threads }
 {
-    let (capacity, steps, seed) = plan;
     let alloc = rt.alloc();
-    let audit = Audit::<u64, L, R>::new(rt, alloc, blank, capacity, threads);
+    let audit = Audit::<u64, L, R>::new(rt, alloc, blank, plan.capacity, threads);
     let (audit, seats) = unwrap(&rt, audit);
     let returned = Mutex::new(Vec::new(alloc));
     let is_done = run_threads(rt, &audit, seats, plan, &returned);
     holds(&rt, ("an audit", "a thread can't be started"), is_done);
     let mut returned = returned.into_inner();
-    let last = if seed == 0 { 0 } else { LAST_STEPS };
+    let last = if plan.seed == 0 { 0 } else { LAST_STEPS };
     let is_asked = last == 0 || make_last_steps(&audit, &mut returned);
     holds(&rt, ("an audit", "a step is refused"), is_asked);
     let (closed, book) = audit.close(returned);
     let is_settled = matches!(closed, Closed::Settled);
     holds(&rt, ("an audit", "it doesn't settle"), is_settled);
-    let entries = threads.saturating_mul(steps).saturating_add(last);
-    let is_opened = book.opening() == capacity;
+    let entries = threads.saturating_mul(plan.steps).saturating_add(last);
+    let is_opened = book.opening() == plan.capacity;
     holds(&rt, ("an audit", "its capacity is another"), is_opened);
     is_right(&rt, alloc, &book, entries);
     for (_, reply) in book.history() {
@@ -231,14 +236,26 @@ fn count(text: &str, start: &str) -> u64 {
 
 #[test]
 fn an_audit_with_no_step_settles_with_its_capacity(rt: HostRuntime) {
+    let (capacity, steps, seed) = (Some(2), 0, 0);
+    let plan = Plan {
+        capacity,
+        steps,
+        seed,
+    };
     let mut text = String::new(rt.alloc());
-    audit_threads::<Brand, _>(rt, Blank::new(1), 1, (Some(2), 0, 0), &mut text);
+    audit_threads::<Brand, _>(rt, Blank::new(1), 1, plan, &mut text);
 }
 
 #[test]
 fn four_threads_make_eight_thousand_entries_and_settle(rt: HostRuntime) {
+    let (capacity, steps, seed) = (None, 2_000, 0);
+    let plan = Plan {
+        capacity,
+        steps,
+        seed,
+    };
     let mut text = String::new(rt.alloc());
-    audit_threads::<Brand, _>(rt, Blank::new(4), 4, (None, 2_000, 0), &mut text);
+    audit_threads::<Brand, _>(rt, Blank::new(4), 4, plan, &mut text);
 }
 
 #[test]
@@ -246,7 +263,13 @@ fn random_steps_of_two_threads_are_a_run(rt: HostRuntime) {
     let mut text = String::new(rt.alloc());
     for &capacity in CAPACITIES {
         for &seed in SEEDS {
-            audit_threads::<Brand, _>(rt, Blank::new(2), 2, (capacity, STEPS, seed), &mut text);
+            let steps = STEPS;
+            let plan = Plan {
+                capacity,
+                steps,
+                seed,
+            };
+            audit_threads::<Brand, _>(rt, Blank::new(2), 2, plan, &mut text);
         }
     }
     for &(start, least) in LEAST {

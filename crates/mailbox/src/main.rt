@@ -5,6 +5,8 @@
 #![tactic(auto)]
 
 mod in_order;
+#[cfg(test)]
+mod rows;
 
 use flume::{Receiver, Runtime, Sender, Waits};
 use in_order::{MESSAGES, WORKERS, in_order};

@@ -9,38 +9,90 @@ use std::sync::Wait;
 use std::sync::atomic::{AtomicU64, Ordering};
 use std::time::{Clock, Duration, Instant};
 
-// A wait, whose clock's readings are numbered from 0, and the first makes the deadline: how many
-// milliseconds each reading leaves to sleep, at which the parker is fired, from which on the time
-// is up, and how many there are before the wait returns.
+// A wait, and the readings of its clock, numbered from 0: the first one makes the deadline.
 #[derive(Clone, Copy)]
-struct TimedWait(u64, u64, u64, u64);
+struct TimedWait {
+    // How many milliseconds each reading leaves to sleep.
+    left: u64,
+    // At which reading the parker is fired.
+    fires_at: u64,
+    // From which reading on the time is up.
+    past_from: u64,
+    // How often it reads the clock before it returns.
+    readings: u64,
+}
 
 const NEVER: u64 = u64::MAX;
 
 const HOUR: u64 = 3_600_000;
 
 // No wake comes. One that was left by the wait before would end it at once.
-const LATE: TimedWait = TimedWait(1, NEVER, 4, 5);
+const LATE: TimedWait = TimedWait {
+    left: 1,
+    fires_at: NEVER,
+    past_from: 4,
+    readings: 5,
+};
 
-const BEFORE_IT_BEGINS: TimedWait = TimedWait(HOUR, 0, NEVER, 1);
+const BEFORE_IT_BEGINS: TimedWait = TimedWait {
+    left: HOUR,
+    fires_at: 0,
+    past_from: NEVER,
+    readings: 1,
+};
 
 // The time is up as the wake comes, which it leaves.
-const TOO_LATE: TimedWait = TimedWait(HOUR, 1, 1, 2);
+const TOO_LATE: TimedWait = TimedWait {
+    left: HOUR,
+    fires_at: 1,
+    past_from: 1,
+    readings: 2,
+};
 
-const ALREADY_WOKEN: TimedWait = TimedWait(HOUR, NEVER, NEVER, 1);
+const ALREADY_WOKEN: TimedWait = TimedWait {
+    left: HOUR,
+    fires_at: NEVER,
+    past_from: NEVER,
+    readings: 1,
+};
 
-const AS_IT_FALLS_ASLEEP: TimedWait = TimedWait(HOUR, 2, NEVER, 4);
+const AS_IT_FALLS_ASLEEP: TimedWait = TimedWait {
+    left: HOUR,
+    fires_at: 2,
+    past_from: NEVER,
+    readings: 4,
+};
 
 // Its sleep has ended by itself.
-const AS_IT_WAKES_UP: TimedWait = TimedWait(1, 3, NEVER, 4);
+const AS_IT_WAKES_UP: TimedWait = TimedWait {
+    left: 1,
+    fires_at: 3,
+    past_from: NEVER,
+    readings: 4,
+};
 
 // It takes the wake before it looks at the time.
-const AS_THE_TIME_IS_UP: TimedWait = TimedWait(1, 3, 3, 4);
+const AS_THE_TIME_IS_UP: TimedWait = TimedWait {
+    left: 1,
+    fires_at: 3,
+    past_from: 3,
+    readings: 4,
+};
 
-const IN_ITS_SECOND_SLEEP: TimedWait = TimedWait(1, 5, NEVER, 7);
+const IN_ITS_SECOND_SLEEP: TimedWait = TimedWait {
+    left: 1,
+    fires_at: 5,
+    past_from: NEVER,
+    readings: 7,
+};
 
 // It holds its lock: if a late wait had left the mark that it sleeps, the fire would wait for that.
-const BEFORE_IT_SLEEPS: TimedWait = TimedWait(HOUR, 1, NEVER, 2);
+const BEFORE_IT_SLEEPS: TimedWait = TimedWait {
+    left: HOUR,
+    fires_at: 1,
+    past_from: NEVER,
+    readings: 2,
+};
 
 const WAITS: &[TimedWait] = &[
     LATE,
@@ -83,15 +135,14 @@ impl<R: Wait> Wait for FiringClock<'_, R> {}
 
 impl<R: Wait> Clock for FiringClock<'_, R> {
     fn monotonic(&self) -> io::Result<Duration> {
-        let TimedWait(left, fires_at, past_from, _) = self.timed;
         let reading = self.readings.fetch_add(1, Ordering::SeqCst);
-        if reading == fires_at {
+        if reading == self.timed.fires_at {
             fire(self.rt, self.parker, self.fires);
         }
         let now = if reading == 0 {
             0
-        } else if reading < past_from {
-            HOUR.saturating_sub(left)
+        } else if reading < self.timed.past_from {
+            HOUR.saturating_sub(self.timed.left)
         } else {
             HOUR
         };
@@ -115,7 +166,7 @@ fn wait_once<R: Wait + Abort>(rt: &R, parker: &Parker, timed: TimedWait, fires: 
     let now = Instant::now(&clock).expect(rt, "this clock can be read");
     let deadline = now.checked_add(Duration::from_millis(HOUR)).unwrap_or(now);
     parker.wait_until(&clock, deadline);
-    is(rt, readings.into_inner(), timed.3);
+    is(rt, readings.into_inner(), timed.readings);
 }
 
 // How often a parker looks before it sleeps.
