@@ -99,7 +99,7 @@ class Layout:
         self.bottom = self.steps + (24 if self.has_steps else 0 if wrong else -16)
 
     def set_places(self):
-        """Each item stands right of those before it, and a call has room for its text and its answer."""
+        """Each item stands right of those before it, and a call is as wide as its text and its answer."""
         ending = {call.ends: call for call in self.calls if call.ends is not None}
         self.places, x = [], self.margin
         for place, item in enumerate(self.items):

@@ -29,9 +29,20 @@ def crates():
     return uses_by((ROOT / "crates.txt").read_text())
 
 
+def code_of(crate):
+    """The text of all sources of a crate."""
+    return "".join(it.read_text() for it in sorted((ROOT / "crates" / crate / "src").rglob("*.rt")))
+
+
 def edits(crate):
     """The wrong bodies of a crate, each a file."""
     return sorted((ROOT / "crates" / crate / "must-fail").glob("*.edit"))
+
+
+def status_in(messages):
+    """The status of a program by the messages of `rt try`, or None if it didn't run to its end."""
+    found = re.search(r"^run=ended status=(\d+)", messages, re.M)
+    return int(found[1]) if found else None
 
 
 def with_below(crate, uses):
@@ -45,15 +56,15 @@ def with_below(crate, uses):
 class Workspace:
     """A crate of a repository in a folder, and the files of which its sources are copies."""
 
-    def __init__(self, room, crate, libraries, sources, copied=None, ignored=()):
+    def __init__(self, repository, crate, libraries, sources, copied=None, ignored=()):
         """Makes a repository of a folder, with copies of these crates of this one (of all, if none are named) but for what
         is ignored, and one crate, which uses these libraries and has these files in src/, a text or a path by each name."""
         uses = crates()
         uses = uses if copied is None else {it: uses[it] for it in copied}
         for it in uses:
             unread = shutil.ignore_patterns("out", "must-fail", *ignored)
-            shutil.copytree(ROOT / "crates" / it, room / "crates" / it, ignore=unread)
-        self.folder = room / "crates" / crate
+            shutil.copytree(ROOT / "crates" / it, repository / "crates" / it, ignore=unread)
+        self.folder = repository / "crates" / crate
         # For each source the file with which it begins, and how many lines that has.
         self.files = {}
         shutil.rmtree(self.folder / "src", ignore_errors=True)
@@ -64,8 +75,8 @@ class Workspace:
             if not isinstance(source, str):
                 self.begins(f"src/{name}", source)
         lines = {**uses, crate: libraries.split()}
-        (room / "crates.txt").write_text("".join(f"{it}: {' '.join(lines[it])}\n" for it in lines))
-        shutil.copy(ROOT / "HANDLES", room)
+        (repository / "crates.txt").write_text("".join(f"{it}: {' '.join(lines[it])}\n" for it in lines))
+        shutil.copy(ROOT / "HANDLES", repository)
 
     def begins(self, source, file):
         """Notes that a source of the crate begins with the text of this file, line by line."""
@@ -91,6 +102,6 @@ class Workspace:
 @contextlib.contextmanager
 def workspace(crate, libraries, sources, copied=None, ignored=()):
     """Such a repository in a temporary folder, which is removed at the end."""
-    with tempfile.TemporaryDirectory(prefix=f"{crate}-") as room:
-        subprocess.run(["git", "init", "-q", room], check=True)
-        yield Workspace(pathlib.Path(room), crate, libraries, sources, copied, ignored)
+    with tempfile.TemporaryDirectory(prefix=f"{crate}-") as repository:
+        subprocess.run(["git", "init", "-q", repository], check=True)
+        yield Workspace(pathlib.Path(repository), crate, libraries, sources, copied, ignored)

@@ -1,5 +1,4 @@
-//! Scripts of books of two seats, which make the steps in turn. The last step is refused memory,
-//! growth by growth: as a whole, or by the channel, whose answer the book has.
+//! Scripts of books of two seats, whose last step is refused memory: as a whole, or by the channel.
 ghost use Rattle.std.specs.Prelude.{◌≡◌};
 
 use crate::fixtures::{Heap, holds, unwrap};
@@ -51,8 +50,7 @@ send 5 -> pending 1
 set_capacity 1 -> done
 ";
 
-// More growths than a step has.
-const MOST: u64 = 1000;
+const MOST_GROWTHS: u64 = 1000;
 
 // A title, an opening and lines of steps. A call that names its ledger can't be handed a `&str`.
 #[derive(Drop)]
@@ -149,7 +147,7 @@ fn play<L: Ledger, R: Abort>(
 fn each_growth<R: Abort>(rt: &R, alloc: Global, block: &str, is_one: bool) {
     let (heap, script) = (Counting::new(alloc), BookScript(block));
     let (mut whole, mut by_channel) = (0u64, false);
-    for first in 1..MOST {
+    for first in 1..MOST_GROWTHS {
         let growths = (first, if is_one { first } else { u64::MAX });
         match play::<Brand, _>(rt, &heap, Blank::new(2), &script, growths) {
             (_, false) => break,
@@ -157,7 +155,7 @@ fn each_growth<R: Abort>(rt: &R, alloc: Global, block: &str, is_one: bool) {
             (false, _) => by_channel = true,
         }
     }
-    let is_some = whole > 0 && whole < MOST - 1;
+    let is_some = whole > 0 && whole < MOST_GROWTHS - 1;
     holds(rt, (block, "refused as a whole never, or always"), is_some);
     let is_told = by_channel == block.contains(" | ");
     holds(rt, (block, "refused by the channel, or not"), is_told);

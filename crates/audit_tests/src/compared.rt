@@ -6,8 +6,7 @@ use flume_model::step::{Reply, Step};
 use std::alloc::Global;
 use std::process::Abort;
 
-// The length of a history `a`, `b`, `c`, lists of receipts, each a number and the letter of its
-// entry, and the least number at which they disagree, or none.
+// The length of the history `a`, `b`, `c`, lists of receipts as `number=entry`, and that number.
 const ROWS: &str = "
 0: -> none
 0: 0=d -> 0

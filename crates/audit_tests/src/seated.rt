@@ -11,8 +11,7 @@ use std::process::Abort;
 use std::sync::ledger::{Blank, Ledger};
 use test_support::counting::Counting;
 
-// More growths than a new book has.
-const GROWTHS: u64 = 9;
+const MOST_GROWTHS: u64 = 9;
 
 // What closing a new book of two seats answers if this many are handed in. `None`: it isn't made.
 fn close_new_book<L: Ledger>(heap: Heap<'_>, blank: Blank, seat_count: usize) -> Option<Closed>
@@ -39,7 +38,7 @@ fn a_missing_seat_is_found(rt: HostRuntime) {
 // How many growths of a new book are refused: each alone, or with all after it up to `last`.
 fn count_refused(rt: &impl Abort, alloc: Global, last: Option<u64>) -> u64 {
     let heap = Counting::new(alloc);
-    for growth in 1..GROWTHS {
+    for growth in 1..MOST_GROWTHS {
         heap.refuse_between(growth, last.unwrap_or(growth));
         let closed = close_new_book::<Brand>(&heap, Blank::new(2), 2);
         let is_refused = heap.refusals() > 0;
@@ -53,14 +52,14 @@ fn count_refused(rt: &impl Abort, alloc: Global, last: Option<u64>) -> u64 {
             return growth.wrapping_sub(1);
         }
     }
-    GROWTHS
+    MOST_GROWTHS
 }
 
 #[test]
 fn no_book_is_made_if_a_growth_is_refused(rt: HostRuntime) {
     for last in [None, Some(u64::MAX)] {
         let refused = count_refused(&rt, rt.alloc(), last);
-        let is_some = refused > 0 && refused < GROWTHS;
+        let is_some = refused > 0 && refused < MOST_GROWTHS;
         holds(&rt, ("opened", "refused never, or always"), is_some);
     }
 }

@@ -1,5 +1,4 @@
-//! Threads on one audited channel: whatever the schedule, receipts and history agree, and the
-//! history is a run.
+//! Threads on one audited channel: it settles, and its history is a run, whatever the schedule.
 ghost use Rattle.std.specs.Prelude.{◌≡◌, ◌<◌};
 
 use crate::fixtures::{holds, unwrap};
@@ -31,7 +30,6 @@ const RECENT: u64 = 8;
 // More tickets than two threads are issued.
 const TICKETS: usize = 2 * STEPS;
 
-// How many steps follow those of the threads.
 const LAST_STEPS: usize = 2 * TICKETS + 11;
 
 // How often replies to random steps begin so at least.

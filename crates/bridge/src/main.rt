@@ -1,8 +1,5 @@
-//! A thread sends numbers, one task squares them, another one doubles the squares, and the main
-//! thread reads the answers.
-//!
-//! Threads make blocking calls; tasks receive by a stream and answer through a sink. The first task
-//! is a type with a `poll`, the second a chain from the stream to the sink.
+//! A thread sends numbers, a task squares them, another one doubles the squares, and `main` reads
+//! those. The first task is a type with a `poll`, the second a chain from a stream to a sink.
 #![tactic(auto)]
 
 use flume::polled::{RecvStream, SendSink};
@@ -16,7 +13,6 @@ use std::{io, thread};
 fn main(rt: HostRuntime) -> io::Result<()> {
     // Of capacity 2: the thread may be ahead of the task by two numbers, and then waits for it.
     let (give, numbers) = flume::on(rt).bounded(2)?;
-    // Of capacity 1: a task may be one answer ahead of its receiver, and then waits.
     let (square, squares) = flume::on(rt).bounded(1)?;
     let (answer, answers) = flume::on(rt).bounded(1)?;
     let feeder = thread::spawn(&rt, move || feed(&give))?;

@@ -17,7 +17,7 @@ pub struct Ends<R: Waits> {
     pub rx: Receiver<usize, R>,
 }
 
-/// A run.
+/// How a shape is run.
 #[derive(Drop)]
 pub struct Bench<R: Waits> {
     pub rt: R,

@@ -1,5 +1,4 @@
-//! The shapes of a bare channel with a crowd of parked receivers or of blocked sends, whose tickets
-//! begin at 1. Each operation leaves as many.
+//! The shapes of a bare channel with a crowd of parked receivers or blocked sends, left as large.
 use crate::arguments::Shape;
 use crate::bench::{Bench, begin_anew};
 use flume::Waits;

@@ -89,11 +89,9 @@ try_send 5 -> sent filled 5
 poll 5 -> got 5
 ";
 
-// More messages than a script has.
-const TAKES: usize = 8;
+const MOST_MESSAGES: usize = 8;
 
-// More tickets than a script issues.
-const MOST: usize = 16;
+const MOST_TICKETS: usize = 16;
 
 // Before which step each end is dropped. The number of steps: behind the last. One more: never.
 #[derive(Clone, Copy, Drop)]
@@ -142,7 +140,7 @@ impl JudgedChannel {
         let reply = self.chan.step(step);
         unwrap(rt, self.judge.add(&step, &reply));
         unwrap(rt, write_reply(&mut self.text, &reply));
-        for _ in 0..MOST {
+        for _ in 0..MOST_TICKETS {
             match self.chan.next_due() {
                 Some(ticket) => self.judge.add_due(ticket),
                 None => break,
@@ -180,7 +178,7 @@ impl JudgedChannel {
     }
 
     fn take_all(&mut self, rt: &impl Abort) {
-        for _ in 0..TAKES {
+        for _ in 0..MOST_MESSAGES {
             self.make(rt, Step::TryRecv);
         }
     }

@@ -11,8 +11,7 @@ use std::process::Abort;
 use std::str;
 use test_support::counting::Counting;
 
-// More growths than a list or a script has.
-const MOST: u64 = 1000;
+const MOST_GROWTHS: u64 = 1000;
 
 // A script of which one step needs memory; its answers, and those if that step is refused.
 #[derive(Clone, Copy)]
@@ -110,7 +109,7 @@ fn check_growth(
 fn check_each_growth(rt: &impl Abort, alloc: Global, row: Row, is_script: bool) {
     let heap = Counting::new(alloc);
     let (mut whole, mut step) = (false, false);
-    for growth in 1..MOST {
+    for growth in 1..MOST_GROWTHS {
         match check_growth(rt, &heap, (row, is_script), growth) {
             (_, false) => break,
             (true, _) => whole = true,

@@ -30,7 +30,8 @@ module _ {T A : Type 0} where
       → (back : T) → result ≢ Err (SendTimeout back)
   send_in_time {message = message} (send.AtFirst f) never back late = subst (λ r. send_turn.IsFirst message (SendDone r)) late f.answers
   send_in_time (send.NoWaiter f a e) never back late = absurd (let none : ⊥ = cc in none)
-  send_in_time {message = message} (send.AtPark f a p) never back late = subst (λ r. send_turn.IsParking message (SendDone r)) late p.answers
+  send_in_time {message = message} (send.AtPark f a p) never back late =
+      subst (λ r. send_turn.IsParking message (SendDone r)) late p.answers
   send_in_time (send.Parked f a p rest) never back late = parked_send rest (p.same ∙ a ∙ f.same ∙ never) back late
 
   -- a parked receive with no deadline is never too late
@@ -43,7 +44,8 @@ module _ {T A : Type 0} where
 
   -- a whole receive with no deadline is never too late
   pub receive_in_time : {old new : Deadline} {result : Result T RecvTimeoutError}
-      → receive.WholeReceive (ReceiveFirst A) MakesWaiter (ReceivePark A) (ReceiveAgain A) WaitsUpTo old new result → old ≡ Never → result ≢ Err RecvTimeout
+      → receive.WholeReceive (ReceiveFirst A) MakesWaiter (ReceivePark A) (ReceiveAgain A) WaitsUpTo old new result → old ≡ Never
+      → result ≢ Err RecvTimeout
   receive_in_time (receive.AtFirst f) never late = subst (λ r. receive_turn.IsFirst (RecvDone r)) late f.answers
   receive_in_time (receive.NoWaiter f a e) never late = absurd (let none : ⊥ = cc in none)
   receive_in_time (receive.AtPark f a p) never late = subst (λ r. receive_turn.IsParking (RecvDone r)) late p.answers

@@ -1,5 +1,7 @@
 -- A receive of many through its gate: what it leaves of the list, the steps that it made, and that it isn't late with no deadline.
-use Rattle.std.proofs.Common.{◌≡◌, ◌≢◌, ℕ, ◌+◌, Bool, true, false, List, [], ◌∷◌, ◌++◌, length, Result, Ok, Err, IfOk, OnErr, refl, sym, ap, ◌∙◌, subst, arith, ◌<◌, ◌⊎◌, inl, inr, Vec, vec_len, vec_capacity}
+use Rattle.std.proofs.Common.{◌≡◌, ◌≢◌, ℕ, ◌+◌, Bool, true, false, List, [], ◌∷◌, ◌++◌, length, Result, Ok}
+use Rattle.std.proofs.Common.{Err, IfOk, OnErr, refl, sym, ap, ◌∙◌, subst, arith, ◌<◌, ◌⊎◌, inl, inr, Vec}
+use Rattle.std.proofs.Common.{vec_len, vec_capacity}
 use Rattle.std.proofs.lemmas.List.{append-nil}
 use Rattle.flume_model.specs.declared.step.Step.{Step}
 use Rattle.flume_model.specs.declared.step.Reply.{Reply}
@@ -34,10 +36,12 @@ module _ {T : Type 0} where
   -- a turn and what was taken behind it leave this of the list
   pub turn_grows : (most more : ℕ) (before after taken : List T) (first : RecvNext T) (next : RecvNext ℕ) → more + 1 ≡ most
       → Gives before more first taken after next → GrowsBy most before after next
-  turn_grows most more before after taken first next is gives = subst (λ n. GrowsBy most before after n) (sym gives.next_is) (go first gives)
+  turn_grows most more before after taken first next is gives = subst (λ n. GrowsBy most before after n) (sym gives.next_is)
+      (go first gives)
     where
       same : (first : RecvNext T) → given_by first ≡ [] → Gives before more first taken after next → after ≡ before
-      same first none gives = gives.items ∙ ap (λ l. before ++ (l ++ taken)) none ∙ ap (λ l. before ++ l) (gives.only_behind_one none) ∙ append-nil before
+      same first none gives = gives.items ∙ ap (λ l. before ++ (l ++ taken)) none ∙ ap (λ l. before ++ l) (gives.only_behind_one none)
+          ∙ append-nil before
 
       go : (first : RecvNext T) → Gives before more first taken after next → GrowsBy most before after (with_more (length taken) first)
       go (Done (Ok m)) gives = record {
@@ -57,7 +61,8 @@ module _ {T : Type 0} where
   from_list most a b after next e grows = subst (λ b. GrowsBy most b after next) e grows
 
   -- a turn that gave no message leaves the list as it was
-  none_grows : (most : ℕ) (before after : List T) (first : RecvNext T) → turn.GivesNone first → after ≡ before → GrowsBy most before after (with_more 0 first)
+  none_grows : (most : ℕ) (before after : List T) (first : RecvNext T) → turn.GivesNone first → after ≡ before
+      → GrowsBy most before after (with_more 0 first)
   none_grows most before after (Done (Ok m)) none same = absurd none
   none_grows most before after (Done (Err e)) none same = same
   none_grows most before after NeedSignal none same = same
@@ -127,7 +132,8 @@ module _ {T : Type 0} where
   served_more n (Refused t) is = is
 
   -- a turn of a parked call answers as one does
-  pub asks_many : (t : ℕ) (late : Bool) (next : RecvNext ℕ) → AnswersMany {T = T} (λ first. turn.IsAgain t late first × turn.IsntRefused first) next
+  pub asks_many : (t : ℕ) (late : Bool) (next : RecvNext ℕ) → AnswersMany {T = T} (λ first. turn.IsAgain t late first
+      × turn.IsntRefused first) next
       → turn.IsAgain t late next × turn.IsntRefused next
   asks_many t late next is = subst (λ n. turn.IsAgain t late n × turn.IsntRefused n) (sym is.next_is)
       (again_more t late is.more is.first is.answered.0, served_more is.more is.first is.answered.1)
@@ -146,7 +152,7 @@ module _ {T : Type 0} where
   came_of most before after (Ok count) grows = grows
   came_of most before after (Err e) grows = tt
 
-  -- where none came the list is as it was
+  -- if none came the list is as it was
   pub same_of : (most : ℕ) (before after : List T) (result : Result ℕ RecvTimeoutError) → GrowsBy most before after (Done result)
       → OnErr result (after ≡ before)
   same_of most before after (Ok count) grows = tt
@@ -159,7 +165,8 @@ module _ {G T A : Type 0} (deadline : G → Deadline) (most : G → ℕ) (into :
 
   -- what the first turn of a receive of many does to its gate
   abbrev Firsts : G → G → RecvNext ℕ → Type 0
-  Firsts old new next = (deadline new ≡ deadline old) × (most new ≡ most old) × turn.IsFirst next × GrowsBy (most old) (items old) (items new) next
+  Firsts old new next = (deadline new ≡ deadline old) × (most new ≡ most old) × turn.IsFirst next
+      × GrowsBy (most old) (items old) (items new) next
       × ReceivesBatch A (items old) (items new) next × LacksRoom (into old) (most old) next
 
   -- what making its parker does to it
@@ -168,18 +175,21 @@ module _ {G T A : Type 0} (deadline : G → Deadline) (most : G → ℕ) (into :
 
   -- what the turn that may park does to it
   abbrev Parks : G → G → RecvNext ℕ → Type 0
-  Parks old new next = (deadline new ≡ deadline old) × (most new ≡ most old) × turn.IsParking next × GrowsBy (most old) (items old) (items new) next
+  Parks old new next = (deadline new ≡ deadline old) × (most new ≡ most old) × turn.IsParking next
+      × GrowsBy (most old) (items old) (items new) next
       × MakesMany {T = T} A (Recv Block) turn.after_recv next
 
   -- what a turn of the parked call does to it
   abbrev Agains : G → ℕ → Bool → G → RecvNext ℕ → Type 0
-  Agains old ticket late new next = (deadline new ≡ deadline old) × (most new ≡ most old) × turn.IsAgain ticket late next × turn.IsntRefused next
+  Agains old ticket late new next = (deadline new ≡ deadline old) × (most new ≡ most old) × turn.IsAgain ticket late next
+      × turn.IsntRefused next
       × GrowsBy (most old) (items old) (items new) next
       × MakesMany {T = T} A (turn.step_of_parked_receive ticket late) (turn.after_parked_receive ticket late) next
 
   -- what waiting does to it
   abbrev Waits : G → G → Bool → Type 0
-  Waits old new late = (deadline new ≡ deadline old) × (most new ≡ most old) × (items new ≡ items old) × (late ≡ true → deadline old ≢ Never)
+  Waits old new late = (deadline new ≡ deadline old) × (most new ≡ most old) × (items new ≡ items old)
+      × (late ≡ true → deadline old ≢ Never)
 
   -- from a gate with the same list and number
   from_equal : (m n : ℕ) (a b after : List T) (next : RecvNext ℕ) → m ≡ n → a ≡ b → GrowsBy m a after next → GrowsBy n b after next
@@ -190,18 +200,23 @@ module _ {G T A : Type 0} (deadline : G → Deadline) (most : G → ℕ) (into :
       → GrowsBy (most old) (items old) (items new) (Done result)
   parked_grows (gate.Asked a) = a.4
   parked_grows (gate.Withdrawn a b e) = absurd a.3
-  parked_grows {old} {new} {ticket} {result} (gate.Expired a w b) = from_equal _ (most old) _ (items old) (items new) (Done result) (w.1 ∙ a.1) (w.2 ∙ a.4) b.4
-  parked_grows {old} {new} {ticket} {result} (gate.Waited a w rest) = from_equal _ (most old) _ (items old) (items new) (Done result) (w.1 ∙ a.1) (w.2 ∙ a.4) (parked_grows rest)
+  parked_grows {old} {new} {ticket} {result} (gate.Expired a w b) = from_equal _ (most old) _ (items old) (items new) (Done result) (w.1
+      ∙ a.1) (w.2 ∙ a.4) b.4
+  parked_grows {old} {new} {ticket} {result} (gate.Waited a w rest) = from_equal _ (most old) _ (items old) (items new) (Done result) (w.1
+      ∙ a.1) (w.2 ∙ a.4) (parked_grows rest)
 
   -- what the whole call leaves of the list
-  pub whole_grows : {old new : G} {result : Result ℕ RecvTimeoutError} → gate.WholeReceive Firsts MakesWaiter Parks Agains Waits old new result
+  pub whole_grows : {old new : G} {result : Result ℕ RecvTimeoutError}
+      → gate.WholeReceive Firsts MakesWaiter Parks Agains Waits old new result
       → GrowsBy (most old) (items old) (items new) (Done result)
   whole_grows (gate.AtFirst f) = f.3
   whole_grows {old} {new} (gate.NoWaiter f a e) = subst (λ r. GrowsBy (most old) (items old) (items new) (Done r)) (sym e) (a.2 ∙ f.3)
-  whole_grows {old} {new} {result} (gate.AtPark f a p) = from_equal _ (most old) _ (items old) (items new) (Done result) (a.1 ∙ f.1) (a.2 ∙ f.3) p.3
-  whole_grows {old} {new} {result} (gate.Parked f a p rest) = from_equal _ (most old) _ (items old) (items new) (Done result) (p.1 ∙ a.1 ∙ f.1) (p.3 ∙ a.2 ∙ f.3) (parked_grows rest)
+  whole_grows {old} {new} {result} (gate.AtPark f a p) = from_equal _ (most old) _ (items old) (items new) (Done result) (a.1 ∙ f.1) (a.2
+      ∙ f.3) p.3
+  whole_grows {old} {new} {result} (gate.Parked f a p rest) = from_equal _ (most old) _ (items old) (items new) (Done result) (p.1 ∙ a.1
+      ∙ f.1) (p.3 ∙ a.2 ∙ f.3) (parked_grows rest)
 
-  -- the parked call isn't late where it has no deadline
+  -- the parked call isn't late if it has no deadline
   parked_in_time : {old new : G} {ticket : ℕ} {result : Result ℕ RecvTimeoutError} → gate.ParkedReceive Agains Waits old ticket new result
       → deadline old ≡ Never → result ≢ Err Timeout
   parked_in_time {ticket = ticket} (gate.Asked a) never late = subst (λ r. turn.IsLater ticket (Done r)) late a.2
@@ -209,8 +224,9 @@ module _ {G T A : Type 0} (deadline : G → Deadline) (most : G → ℕ) (into :
   parked_in_time (gate.Expired a w b) never late = w.3 refl (a.0 ∙ never)
   parked_in_time (gate.Waited a w rest) never late = parked_in_time rest (w.0 ∙ a.0 ∙ never) late
 
-  -- the whole call isn't late where it has no deadline
-  pub whole_in_time : {old new : G} {result : Result ℕ RecvTimeoutError} → gate.WholeReceive Firsts MakesWaiter Parks Agains Waits old new result
+  -- the whole call isn't late if it has no deadline
+  pub whole_in_time : {old new : G} {result : Result ℕ RecvTimeoutError}
+      → gate.WholeReceive Firsts MakesWaiter Parks Agains Waits old new result
       → deadline old ≡ Never → result ≢ Err Timeout
   whole_in_time (gate.AtFirst f) never late = subst (λ r. turn.IsFirst (Done r)) late f.2
   whole_in_time (gate.NoWaiter f a e) never late = absurd (let none : ⊥ = cc in none)
@@ -227,15 +243,17 @@ module _ {G T A : Type 0} (deadline : G → Deadline) (most : G → ℕ) (into :
   parked_made (gate.Waited a w rest) = parked_made rest
 
   -- how the whole call ended
-  pub whole_made : {old new : G} {result : Result ℕ RecvTimeoutError} → gate.WholeReceive Firsts MakesWaiter Parks Agains Waits old new result
+  pub whole_made : {old new : G} {result : Result ℕ RecvTimeoutError}
+      → gate.WholeReceive Firsts MakesWaiter Parks Agains Waits old new result
       → ReceivesMany A (items old) (items new) result
   whole_made (gate.AtFirst f) = steps.AtFirst f.4
   whole_made (gate.NoWaiter f a e) = steps.NoWaiter (first_none f.4) e
   whole_made (gate.AtPark f a p) = steps.AtPark (first_none f.4) p.4
   whole_made (gate.Parked f a p rest) = let last = parked_made rest in steps.AtAgain (first_none f.4) last.0 last.1 last.2
 
-  -- where the whole call found no memory, it lacked room, or none was there
-  pub whole_room : {old new : G} {result : Result ℕ RecvTimeoutError} → gate.WholeReceive Firsts MakesWaiter Parks Agains Waits old new result
+  -- if the whole call found no memory, it lacked room, or none was there
+  pub whole_room : {old new : G} {result : Result ℕ RecvTimeoutError}
+      → gate.WholeReceive Firsts MakesWaiter Parks Agains Waits old new result
       → result ≡ Err NoMemory
       → (vec_capacity (into old) < vec_len (into old) + most old) ⊎ FindsNone T A
   whole_room {old} (gate.AtFirst f) said = inl (subst (λ r. LacksRoom (into old) (most old) (Done r)) said f.5)

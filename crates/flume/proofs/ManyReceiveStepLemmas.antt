@@ -30,7 +30,8 @@ module _ {T S A : Type 0} where
 
   -- the steps of a first turn
   pub first_made : {before : List T} {outcome : State T S → State T S → ManyNext T A → Type 0} {answer : ManyNext T A}
-      → HasDone A (λ old new answer. IsBatch {A = A} (λ made is. FirstManyTable before made is.into.items is.next) old new answer × outcome old new answer) answer
+      → HasDone A (λ old new answer. IsBatch {A = A} (λ made is. FirstManyTable before made is.into.items is.next) old new answer
+      × outcome old new answer) answer
       → ReceivesBatch A before answer.into.items answer.next
   first_made done =
       let batch = done.turn.0 in
@@ -55,7 +56,8 @@ module _ {T S A : Type 0} where
 
   -- one step was made, and its answer is with how many came
   pub made_many : {step : Step T} {table : Reply T A → RecvNext T → Type 0} {outcome : State T S → State T S → RecvNext T → Type 0}
-      {next : RecvNext ℕ} → AnswersMany (HasDone A (λ old new answer. Turned {A = A} step table old new answer × outcome old new answer)) next
+      {next : RecvNext ℕ} → AnswersMany (HasDone A (λ old new answer. Turned {A = A} step table old new answer × outcome old new answer))
+      next
       → MakesMany A step table next
   made_many is = record { first = is.first; more = is.more; answered = step_made is.answered; next_is = is.next_is }
 
@@ -70,7 +72,8 @@ module _ {T : Type 0} where
 
 module _ {T A : Type 0} where
   -- the steps of a first turn, from a list that is equal and to an answer that is
-  pub takes_from : {a b after : List T} {next last : RecvNext ℕ} → a ≡ b → next ≡ last → ReceivesBatch A a after next → ReceivesBatch A b after last
+  pub takes_from : {a b after : List T} {next last : RecvNext ℕ} → a ≡ b → next ≡ last → ReceivesBatch A a after next
+      → ReceivesBatch A b after last
   takes_from {b = b} {after = after} {next = next} e f is =
       subst (λ n. ReceivesBatch A b after n) f (subst (λ l. ReceivesBatch A l after next) e is)
 

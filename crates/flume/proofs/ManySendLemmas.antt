@@ -1,5 +1,6 @@
 -- What is left of a list after some of its messages were sent.
-use Rattle.std.proofs.Common.{◌≡◌, ◌≢◌, List, [], ◌∷◌, ◌++◌, Option, Some, None, Result, Ok, Err, refl, sym, ◌∙◌, ap, subst, inl, inr, append_assoc}
+use Rattle.std.proofs.Common.{◌≡◌, ◌≢◌, List, [], ◌∷◌, ◌++◌, Option, Some, None, Result, Ok, Err, refl, sym}
+use Rattle.std.proofs.Common.{◌∙◌, ap, subst, inl, inr, append_assoc}
 use Rattle.std.proofs.lemmas.List.{append-nil}
 use Rattle.flume_core.specs.declared.error.SendError.{SendError}
 use Rattle.flume_core.specs.declared.error.SendError.TheVariants.{Disconnected, NoMemory}
@@ -32,7 +33,7 @@ module _ {T : Type 0} where
   pub behind_first : (all now behind : List T) (first : T) → IsEndOf all now → now ≡ first ∷ behind → IsEndOf all behind
   behind_first all now behind first last is = (last.0 ++ first ∷ [], append_sent all (first ∷ []) now last behind is)
 
-  -- what is left where no message waited
+  -- what is left if no message waited
   pub without_wait : (all left : List T) → IsRest all left → IsRestAfterWait all left
   without_wait all left rest = record {
     sent = rest.sent;
@@ -54,9 +55,11 @@ module _ {T : Type 0} where
     messages_are = append_sent all rest.sent now last (rest.first ∷ rest.behind) rest.messages_are;
   }
 
-  -- what a poll of the first of some messages leaves: where an error comes back, it has that message
-  pub first_poll_leaves : (messages rest behind : List T) (first : T) (answer : Option (Result (Unit {0}) (SendError T))) → IsRest messages rest
-      → rest ≡ first ∷ behind → ((error : SendError T) → answer ≡ Some (Err error) → back_of error ≡ first) → LeavesList messages behind answer
+  -- what a poll of the first of some messages leaves: if an error comes back, it has that message
+  pub first_poll_leaves : (messages rest behind : List T) (first : T) (answer : Option (Result (Unit {0}) (SendError T)))
+      → IsRest messages rest
+      → rest ≡ first ∷ behind → ((error : SendError T) → answer ≡ Some (Err error) → back_of error ≡ first)
+      → LeavesList messages behind answer
   first_poll_leaves messages rest behind first answer left is came = go answer came
     where
       last : IsEndOf messages (first ∷ behind)
@@ -97,7 +100,8 @@ module _ {T : Type 0} where
       behind_first messages (one ∷ left) left one (sent, let same : messages ≡ sent ++ one ∷ left = cc in same) refl
 
   -- of a list that begins with a message of its own and that a poll was sending, the last of the others are left
-  message_end : (message : T) (messages left : List T) (answer : Answer T) → LeavesList (message ∷ messages) left answer → IsEndOf messages left
+  message_end : (message : T) (messages left : List T) (answer : Answer T) → LeavesList (message ∷ messages) left answer
+      → IsEndOf messages left
   message_end message messages left None leaves = behind_message message messages left leaves.0 leaves.1
   message_end message messages left (Some (Ok sent)) (inl none) =
       subst (λ left. IsEndOf messages left) (sym none) (messages, sym (append-nil messages))
@@ -106,25 +110,28 @@ module _ {T : Type 0} where
   message_end message messages left (Some (Err (NoMemory back))) last = behind_message message messages left back last
 
   -- the same of a poll that first polls a send
-  pub poll_end : (send : PolledSend T) (messages left : List T) (answer : Answer T) → PollLeaves send messages left answer → IsEndOf messages left
+  pub poll_end : (send : PolledSend T) (messages left : List T) (answer : Answer T) → PollLeaves send messages left answer
+      → IsEndOf messages left
   poll_end (Unsent message) messages left answer leaves = message_end message messages left answer leaves
   poll_end (Parked ticket) messages left answer (inl same) = ([], sym same.0)
   poll_end (Parked ticket) messages left answer (inr leaves) = list_end messages left answer leaves
   poll_end Finished messages left answer leaves = list_end messages left answer leaves
 
-  -- where the send had ended, the poll sent of the list
-  pub finished_poll_leaves : (send : PolledSend T) (messages left : List T) (answer : Answer T) → send ≡ Finished → PollLeaves send messages left answer
+  -- if the send had ended, the poll sent of the list
+  pub finished_poll_leaves : (send : PolledSend T) (messages left : List T) (answer : Answer T) → send ≡ Finished
+      → PollLeaves send messages left answer
       → LeavesList messages left answer
   finished_poll_leaves send messages left answer over leaves = subst (λ send. PollLeaves send messages left answer) over leaves
 
-  -- where the send ended well, the poll went on to the list
+  -- if the send ended well, the poll went on to the list
   pub sent_poll_leaves : (send : PolledSend T) (messages left : List T) (answer : Answer T) → LeavesList messages left answer
       → PollLeaves send messages left answer
-  sent_poll_leaves (Unsent message) messages left answer leaves = next_leaves (message ∷ messages) messages left answer (message ∷ [], refl) leaves
+  sent_poll_leaves (Unsent message) messages left answer leaves = next_leaves (message ∷ messages) messages left answer
+      (message ∷ [], refl) leaves
   sent_poll_leaves (Parked ticket) messages left answer leaves = inr leaves
   sent_poll_leaves Finished messages left answer leaves = leaves
 
-  -- where the send waits or fails, the list is as it was
+  -- if the send waits or fails, the list is as it was
   pub unsent_poll_leaves : (send : PolledSend T) (messages : List T) (answer : Answer T) → answer ≢ Some (Ok tt)
       → (send ≡ Finished → answer ≡ Some (Ok tt))
       → ((message : T) → send ≡ Unsent message → (error : SendError T) → answer ≡ Some (Err error) → back_of error ≡ message)

@@ -49,7 +49,8 @@ module _ {T A : Type 0} where
       → SendsMany messages made batch → batch ≡ Err (Full left) → left.items ≡ first ∷ behind → IsRun opening (log_after log made)
       → HasMade {A = A} (TrySend first) after_try_send (NeedSignal first)
   full_offer opening log messages made batch left first behind NoneLeft over is run = absurd (let none : ⊥ = cc in none)
-  full_offer opening log messages made batch left first behind (MoreTakenIn {message = message} {rest = rest} {made = more} filled others) over is run =
+  full_offer opening log messages made batch left first behind (MoreTakenIn {message = message} {rest = rest} {made = more} filled others)
+      over is run =
       full_offer opening ((TrySend message, reply.Sent filled) ∷ log) rest more batch left first behind others over is run
   full_offer opening log messages made batch left first behind (IsFull {message = message} same) over is run =
       let one : message ≡ first = cc in
@@ -60,7 +61,8 @@ module _ {T A : Type 0} where
 
 module _ {T S A : Type 0} where
   -- a batch under the lock that found the channel full offered the first message of those that it left
-  pub batch_full : {items : List T} {outcome : State T S → State T S → Result (Unit {0}) (TrySendError (VecDeque T A)) → Type 0} {left : VecDeque T A}
+  pub batch_full : {items : List T} {outcome : State T S → State T S → Result (Unit {0}) (TrySendError (VecDeque T A))
+      → Type 0} {left : VecDeque T A}
       → HasDone A (λ old new told. IsBatch {A = A} (SendsMany items) old new told × outcome old new told) (Err (Full left))
       → (first : T) (behind : List T) → left.items ≡ first ∷ behind → HasMade {A = A} (TrySend first) after_try_send (NeedSignal first)
   batch_full {items} {outcome} {left} done first behind is =
@@ -78,12 +80,14 @@ module _ {T : Type 0} where
 
 module _ {T A : Type 0} where
   -- it has what the batch left
-  pub leaves : (items messages : List T) (batch : Result (Unit {0}) (TrySendError (VecDeque T A))) (answer : Result (Unit {0}) (TrySendError (List T)))
+  pub leaves : (items messages : List T) (batch : Result (Unit {0}) (TrySendError (VecDeque T A)))
+      (answer : Result (Unit {0}) (TrySendError (List T)))
       → LeavesRest items batch → items ≡ messages → try_result_list deque_items batch ≡ answer → Leaves messages answer
   leaves items messages batch answer rest same is =
       subst (λ list. Leaves list answer) same (subst (λ answer. Leaves items answer) is (go batch rest))
     where
-      go : (batch : Result (Unit {0}) (TrySendError (VecDeque T A))) → LeavesRest items batch → Leaves items (try_result_list deque_items batch)
+      go : (batch : Result (Unit {0}) (TrySendError (VecDeque T A))) → LeavesRest items batch
+          → Leaves items (try_result_list deque_items batch)
       go (Ok sent) rest = tt
       go (Err (Full left)) rest = rest
       go (Err (Disconnected left)) rest = rest
@@ -92,14 +96,17 @@ module _ {T A : Type 0} where
 module _ {T A : Type 0} where
   -- the first of the messages was taken in
   pub first_taken : {deadline : Deadline} {messages : List T} {first : T} {behind : List T} {ended : Result (Unit {0}) (SendTimeoutError T)}
-      {sent : Unit {0}} → Sends A deadline first ended → messages ≡ first ∷ behind → ended ≡ Ok sent → SendsFirst A deadline messages (Ok behind)
+      {sent : Unit {0}} → Sends A deadline first ended → messages ≡ first ∷ behind → ended ≡ Ok sent
+      → SendsFirst A deadline messages (Ok behind)
   first_taken {deadline = deadline} {first = first} {behind = behind} sends is over =
       subst (λ list. SendsFirst A deadline list (Ok behind)) (sym is) (TakenIn (subst (λ ended. Sends A deadline first ended) over sends))
 
   -- its send ended with an error, which has what came back and those behind
   pub first_back : {deadline : Deadline} {messages : List T} {first : T} {behind : List T} {ended : Result (Unit {0}) (SendTimeoutError T)}
-      {error : SendTimeoutError T} {all : SendTimeoutError (List T)} → Sends A deadline first ended → messages ≡ first ∷ behind → ended ≡ Err error
+      {error : SendTimeoutError T} {all : SendTimeoutError (List T)} → Sends A deadline first ended → messages ≡ first ∷ behind
+      → ended ≡ Err error
       → error_list (λ back. back ∷ behind) error ≡ all → SendsFirst A deadline messages (Err all)
   first_back {deadline = deadline} {first = first} {behind = behind} {all = all} sends is over same =
       subst (λ list. SendsFirst A deadline list (Err all)) (sym is)
-      (subst (λ error. SendsFirst A deadline (first ∷ behind) (Err error)) same (ComesBack (subst (λ ended. Sends A deadline first ended) over sends)))
+      (subst (λ error. SendsFirst A deadline (first ∷ behind) (Err error)) same
+      (ComesBack (subst (λ ended. Sends A deadline first ended) over sends)))

@@ -1,5 +1,6 @@
 -- What a poll makes of a receive, by its answer: it waits under its own ticket, has none, or is as it was.
-use Rattle.std.proofs.Common.{◌≡◌, ℕ, ◌+◌, Bool, true, false, List, ◌∷◌, length, Option, Some, None, IsSome, Result, Ok, Err, IfOk, refl, sym, ap, ◌∙◌, subst, arith}
+use Rattle.std.proofs.Common.{◌≡◌, ℕ, ◌+◌, Bool, true, false, List, ◌∷◌, length, Option, Some, None, IsSome}
+use Rattle.std.proofs.Common.{Result, Ok, Err, IfOk, refl, sym, ap, ◌∙◌, subst, arith}
 use Rattle.flume_model.specs.declared.step.Kind.{Kind}
 use Rattle.flume_state.specs.State.{State}
 use Rattle.flume_core.specs.declared.error.RecvError.{RecvError}
@@ -50,7 +51,8 @@ module _ {T : Type 0} where
   parking_leaves (Done (Err timed.Timeout)) after answer parking is = absurd is
   parking_leaves NeedSignal after answer parking is = absurd parking
   parking_leaves (Park t) after answer parking is =
-      with_answer None after None is.1 (subst (λ a. IsSome a × (IsSome {T = ℕ} None → a ≡ None)) (sym is.0) (refl, λ was. no_ticket (Some t) was))
+      with_answer None after None is.1 (subst (λ a. IsSome a × (IsSome {T = ℕ} None → a ≡ None)) (sym is.0)
+      (refl, λ was. no_ticket (Some t) was))
   parking_leaves (Refused t) after answer parking is = absurd parking
 
   -- a parked receive that waits on
@@ -64,14 +66,16 @@ module _ {T : Type 0} where
   later_leaves : (t : ℕ) (signalled : Bool) (next : RecvNext T) (after : Option ℕ) (answer : Option (Result T RecvError)) → IsLater t next
       → IsntRefused next → finishes_receive signalled next after answer → Leaves (Some t) after answer
   later_leaves t signalled (Done (Ok m)) after answer later served is = with_answer (Some t) after (Some (Ok m)) is.1 is.0
-  later_leaves t signalled (Done (Err timed.Disconnected)) after answer later served is = with_answer (Some t) after (Some (Err Disconnected)) is.1 is.0
+  later_leaves t signalled (Done (Err timed.Disconnected)) after answer later served is =
+      with_answer (Some t) after (Some (Err Disconnected)) is.1 is.0
   later_leaves t signalled (Done (Err timed.NoMemory)) after answer later served is = absurd later
   later_leaves t signalled (Done (Err timed.Timeout)) after answer later served is = absurd is
   later_leaves t signalled NeedSignal after answer later served is = absurd later
   later_leaves t signalled (Park same) after answer later served is = waiting_leaves t same signalled after answer later is.0 is.1
   later_leaves t signalled (Refused same) after answer later served is = absurd served
 
-module _ {T S A : Type 0} {kind : Kind} {call after : Option ℕ} {signal : Option S} {old new : State T S} {answer : Option (Result T RecvError)} where
+module _ {T S A : Type 0} {kind : Kind} {call after : Option ℕ} {signal : Option S} {old new : State T S} {answer : Option
+    (Result T RecvError)} where
   -- one poll
   poll_leaves : ReceivePoll A kind call signal old new after answer → Leaves call after answer
   poll_leaves (Tries next unparked none turn first served outcome settles) =
@@ -100,7 +104,8 @@ module _ {T A : Type 0} {old new : PolledReceive} where
 
 module _ {T : Type 0} (most : ℕ) (before after : List T) where
   -- what came by a poll of many, by what its receive answered
-  more_came : {answer : Option (Result ℕ RecvError)} (first : Option (Result T RecvError)) (result : Result ℕ RecvError) → answer ≡ Some result
+  more_came : {answer : Option (Result ℕ RecvError)} (first : Option (Result T RecvError)) (result : Result ℕ RecvError)
+      → answer ≡ Some result
       → AddsMore most before first after answer → IfOk result (Appends most before after)
   more_came (Some (Ok message)) (Ok count) said is =
       let same : length is.0 + 1 ≡ count = cc in
@@ -111,8 +116,10 @@ module _ {T : Type 0} (most : ℕ) (before after : List T) where
   more_came first (Err error) said is = tt
 
   -- what came by a poll of many
-  pub many_came : {A : Type 0} {n : ℕ} {start : List T} {old new : PolledReceive} {answer : Option (Result ℕ RecvError)} (result : Result ℕ RecvError)
-      → n ≡ most → start ≡ before → answer ≡ Some result → HasPolledMany A n start old after new answer → IfOk result (Appends most before after)
+  pub many_came : {A : Type 0} {n : ℕ} {start : List T} {old new : PolledReceive} {answer : Option (Result ℕ RecvError)}
+      (result : Result ℕ RecvError)
+      → n ≡ most → start ≡ before → answer ≡ Some result → HasPolledMany A n start old after new answer
+      → IfOk result (Appends most before after)
   many_came {n = n} {answer = answer} result number items said is =
       let by_items : AddsMore n before is.first after answer = subst (λ l. AddsMore n l is.first after answer) items is.more in
       more_came is.first result said (subst (λ m. AddsMore m before is.first after answer) number by_items)

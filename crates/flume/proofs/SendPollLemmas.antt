@@ -1,4 +1,4 @@
--- A poll of a send that is ready has ended it, and one that is pending has parked it; where its message wasn't offered
+-- A poll of a send that is ready has ended it, and one that is pending has parked it; if its message wasn't offered
 -- before, what comes back is that message.
 use Rattle.std.proofs.Common.{◌≡◌, ℕ, Bool, true, false, Option, Some, None, Result, Ok, Err, ◌∙◌, refl, ap, subst}
 use Rattle.flume_state.specs.State.{State}
@@ -84,7 +84,8 @@ module _ {T S A : Type 0} {send after : PolledSend T} {signal : Option S} {old n
   pub poll_finishes : SendPoll A send signal old new after answer → (result : Result (Unit {0}) (SendError T)) → answer ≡ Some result
       → after ≡ Finished
   poll_finishes (AlreadyFinished is same finished ok) result ready = finished
-  poll_finishes (Tries message next is none turned first outcome settles) result ready = ready_finishes next after answer settles result ready
+  poll_finishes (Tries message next is none turned first outcome settles) result ready =
+      ready_finishes next after answer settles result ready
   poll_finishes (Parks message next given is some turned parking outcome settles) result ready =
       ready_finishes next after answer settles result ready
   poll_finishes (Asks late ticket next is held signalled turned again outcome settles) result ready =
@@ -101,7 +102,8 @@ module _ {T S A : Type 0} {send after : PolledSend T} {signal : Option S} {old n
       let parked = pending_parks next after answer settles none in (parked.0, parked.2)
 
   -- one that was parked waits on under its ticket
-  pub keeps_ticket : SendPoll A send signal old new after answer → (ticket : ℕ) → send ≡ Parked ticket → answer ≡ None → after ≡ Parked ticket
+  pub keeps_ticket : SendPoll A send signal old new after answer → (ticket : ℕ) → send ≡ Parked ticket → answer ≡ None
+      → after ≡ Parked ticket
   keeps_ticket (AlreadyFinished is same finished ok) ticket parked none = absurd (let no : ⊥ = cc in no)
   keeps_ticket (Tries message next is given turned first outcome settles) ticket parked none = absurd (let no : ⊥ = cc in no)
   keeps_ticket (Parks message next given is some turned parking outcome settles) ticket parked none = absurd (let no : ⊥ = cc in no)

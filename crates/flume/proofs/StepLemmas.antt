@@ -16,7 +16,8 @@ one_step {step = step} turn = OneStep step turn.reply turn.stepped
 module _ {T S A N : Type 0} {step : Step T} {table : Reply T A → N → Type 0}
     {outcome : State T S → State T S → N → Type 0} {answer : N} where
   -- the step was made
-  pub step_made : HasDone A (λ old new answer. Turned {A = A} step table old new answer × outcome old new answer) answer → HasMade step table answer
+  pub step_made : HasDone A (λ old new answer. Turned {A = A} step table old new answer × outcome old new answer) answer
+      → HasMade step table answer
   step_made done =
       let turn = done.turn.0 in
       record {

@@ -1,6 +1,10 @@
--- The arms of a list: which arm has which number, and what a turn of one changes.
+-- The arms of a list: which arm has which number, what a turn of one changes, and the error.
 use Rattle.std.specs.Prelude.{◌≡◌, ◌<◌, ◌≤◌, ◌-◌, ◌+◌, ℕ, min, List, Some, None}
-use Rattle.std.specs.Prelude.{slice_get, slice_set}
+use Rattle.std.specs.Prelude.{slice_get, slice_set, codes}
+use Rattle.std.specs.declared.io.ErrorKind.{ErrorKind}
+use Rattle.std.specs.declared.io.ErrorKind.TheVariants as kind
+use Rattle.flume.specs.declared.select.error.EachError.{EachError}
+use Rattle.flume.specs.declared.select.error.EachError.TheVariants as each
 
 -- the first holds of an arm among so many before a list, the second of the place of one in it
 pub record ByPlace (count : ℕ) (before listed : ℕ → Type 0) (arm : ℕ) : Type 0 where
@@ -24,3 +28,13 @@ module _ {C : Type 0} where
     pub found : (arm : C) → slice_get old place ≡ Some arm
         → (after : C) × changes arm after × (new ≡ slice_set old place after)
     pub none : slice_get old place ≡ None → absent × (new ≡ old)
+
+-- the text of the error of a list
+abbrev pub each_text : EachError → List ℕ
+each_text each.NoArm = codes "no arm to wait for"
+each_text each.NoMemory = codes "out of memory"
+
+-- its kind as an io error
+abbrev pub each_kind : EachError → ErrorKind
+each_kind each.NoArm = kind.InvalidInput
+each_kind each.NoMemory = kind.OutOfMemory

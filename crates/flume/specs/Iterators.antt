@@ -15,21 +15,20 @@ use Rattle.flume_core.specs.declared.error.RecvTimeoutError.TheVariants as timeo
 use Rattle.flume_core.specs.declared.error.NoMemory.{NoMemory}
 use Rattle.flume.specs.GateSteps.{Receives}
 
--- what a contract sees of an iterator over received messages
+-- what a contract sees of an iterator over received messages, whose calls no run uses up
 pub record IterValue : Type 0 where
   pub channel : ℕ
   pub fault : Bool
-  -- how often `next` may still be called; no run uses that up
-  pub calls : ℕ
+  pub calls_left : ℕ
 
 -- the iterator over a channel's messages as it begins
 abbrev pub new_iter : ℕ → IterValue
-new_iter channel = record { channel = channel; fault = false; calls = 2 ^ 64 - 1 }
+new_iter channel = record { channel = channel; fault = false; calls_left = 2 ^ 64 - 1 }
 
 -- one `next`
 pub record IsNext {T : Type 0} (old : IterValue) (item : Option T) (new : IterValue) : Type 0 where
   pub channel : new.channel ≡ old.channel
-  pub calls : old.calls ≡ new.calls + 1
+  pub calls_left : old.calls_left ≡ new.calls_left + 1
   pub fault : new.fault ≡ true → item ≡ None
 
 -- what a contract sees of an iterator that ends at a deadline
@@ -37,19 +36,19 @@ pub record DeadlineIterValue : Type 0 where
   pub channel : ℕ
   pub deadline : Deadline
   pub end : Option RecvTimeoutError
-  pub calls : ℕ
+  pub calls_left : ℕ
 
 -- the iterator over a channel's messages up to a deadline as it begins
 abbrev pub new_deadline_iter : ℕ → Deadline → DeadlineIterValue
 new_deadline_iter channel deadline =
-    record { channel = channel; deadline = deadline; end = None; calls = 2 ^ 64 - 1 }
+    record { channel = channel; deadline = deadline; end = None; calls_left = 2 ^ 64 - 1 }
 
 -- one `next` of it
 pub record IsNextInTime {T : Type 0} (A : Type 0) (old : DeadlineIterValue) (item : Option T)
     (new : DeadlineIterValue) : Type 0 where
   pub channel : new.channel ≡ old.channel
   pub deadline : new.deadline ≡ old.deadline
-  pub calls : old.calls ≡ new.calls + 1
+  pub calls_left : old.calls_left ≡ new.calls_left + 1
   pub end : IsSome new.end ↔ IsNone item
   pub has_deadline : new.end ≡ Some timeout.Timeout → old.deadline ≢ Never
   pub ahead : new.end ≢ Some timeout.Timeout → CanBeAhead old.deadline

@@ -3,7 +3,6 @@ pub mod ArmStates
 pub mod ArmTurns
 pub mod Builders
 pub mod CallSteps
-pub mod EachErrors
 pub mod GateSteps
 pub mod Iterators
 pub mod LockedPolls

@@ -17,8 +17,7 @@ module _ {T A N : Type 0} where
     pub answered : table reply answer
 
 module _ {T S N : Type 0} (A : Type 0) where
-  -- Some channel that a run led to did this, with this answer. No clause can say which channel is
-  -- behind a lock; tests show that it is the caller's own.
+  -- Some channel that a run led to did this. No clause can say that it is the caller's; tests do.
   pub record HasDone (does : State T S → State T S → N → Type 0) (answer : N) : Type 0 where
     pub opening : Opening
     pub log : Log T A

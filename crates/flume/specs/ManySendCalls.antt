@@ -28,8 +28,7 @@ module _ {T : Type 0} where
   LeavesList messages left (Some (Err (Disconnected back))) = IsEndOf messages (back ∷ left)
   LeavesList messages left (Some (Err (NoMemory back))) = IsEndOf messages (back ∷ left)
 
-  -- What a poll leaves of them that first polls this send. Only the channel knows the message of a
-  -- parked send: if that one waits on, or comes back, the list is as it was.
+  -- what a poll of this send and those behind it leaves; only the channel knows a parked message
   abbrev pub PollLeaves : PolledSend T → List T → List T
       → Option (Result (Unit {0}) (SendError T)) → Type 0
   PollLeaves (Unsent message) messages left answer = LeavesList (message ∷ messages) left answer

@@ -33,8 +33,7 @@ module _ {L T : Type 0} (listed : L → List T) where
   result_list (Err error) = Err (error_list error)
 
 module _ {T : Type 0} (A : Type 0) where
-  -- some channel's run goes on with a `try_send` of each of these messages, up to the first that is
-  -- refused, and this is the answer
+  -- some channel's run goes on with a `try_send` of each message, up to the first that is refused
   pub record SendsBatch (messages : List T) (answer : Result (Unit {0}) (TrySendError (List T)))
       : Type 0 where
     pub batch : Result (Unit {0}) (TrySendError (VecDeque T A))

@@ -47,8 +47,7 @@ module _ {T : Type 0} where
   AddsMore most before None after answer = (after ≡ before) × (answer ≡ None)
 
 module _ {T : Type 0} (A : Type 0) where
-  -- one poll of a receive was made, and if it gave a message others came with it, at most so many
-  -- in all
+  -- one poll of a receive was made, and if it gave a message others came, at most so many in all
   pub record HasPolledMany (most : ℕ) (before : List T) (old : PolledReceive) (after : List T)
       (new : PolledReceive) (answer : Option (Result ℕ RecvError)) : Type 0 where
     pub first : Option (Result T RecvError)

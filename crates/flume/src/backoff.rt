@@ -1,44 +1,50 @@
 //! What a call does before it sleeps, since a sleep costs far more than what it waits for.
 use crate::signal::YIELDS;
+use std::cmp::min;
 use std::hint::spin_loop;
 
-const SMALL_CAPACITY: u64 = 4;
+const SMALL_CAPACITY: u64 = 2;
 
 pub(crate) const UNBOUNDED: u64 = u64::MAX;
 
 const CHECKS: u32 = 220;
 
-const FEW_PAUSES: u32 = 70;
+const FEW_PAUSES: u32 = 16;
 
-const PAUSES: u32 = 300;
+const PAUSES_A_MESSAGE: u32 = 4;
+
+const MOST_MESSAGES: u64 = 72;
+
+// Once a wake is seen: whoever rang still has the lock that the call takes next.
+pub(crate) const PAUSES_AFTER_WAKE: u32 = 12;
 
 #[derive(Clone, Copy, Drop)]
 pub(crate) struct Backoff {
-    // Before it parks.
-    pub(crate) pauses: u32,
-    // Once it has parked.
-    pub(crate) checks: u32,
+    pub(crate) pauses_before_parking: u32,
+    pub(crate) checks_once_parked: u32,
 }
 
 impl Backoff {
-    // At a small capacity a call first lets one message come or go, at a greater one it lets them
-    // gather. On an unbounded channel neither helped.
+    // At a small capacity a call parks at once, at a greater one it first lets messages gather. On
+    // an unbounded channel neither helped.
     pub(crate) fn of(capacity_hint: u64) -> Backoff {
-        let (pauses, checks) = if capacity_hint == 0 {
+        let (pauses_before_parking, checks_once_parked) = if capacity_hint <= SMALL_CAPACITY {
             (0, CHECKS)
-        } else if capacity_hint <= SMALL_CAPACITY {
-            (FEW_PAUSES, CHECKS)
         } else if capacity_hint < UNBOUNDED {
-            (PAUSES, YIELDS)
+            let messages = min(capacity_hint, MOST_MESSAGES) as u32;
+            let pauses = messages.saturating_mul(PAUSES_A_MESSAGE);
+            (pauses.saturating_add(FEW_PAUSES), YIELDS)
         } else {
             (0, 0)
         };
-        Backoff { pauses, checks }
+        Backoff {
+            pauses_before_parking,
+            checks_once_parked,
+        }
     }
 }
 
-// How often a call tries for the lock before it sleeps for it.
-pub(crate) const TRIES: u32 = 8;
+pub(crate) const LOCK_TRIES: u32 = 8;
 
 pub(crate) const FIRST_PAUSES: u32 = 32;
 

@@ -11,11 +11,8 @@ use std::alloc::{Alloc, AllocError, Allocator};
 use std::fmt;
 use std::marker::Model;
 
-/// How a channel is to be opened: `on` makes one, `number` and `allocator` change it, `unbounded`
-/// and `bounded` open the channel. A copy opens another channel with the same number.
-///
-/// Whatever its capacity, a channel holds at most 4,294,967,295 messages, as many parked receivers
-/// and as many live sends. Past that a call answers `NoMemory`.
+/// How a channel is to be opened. A copy opens another one with the same number. Each holds at most
+/// 4,294,967,295 messages, as many parked receivers, as many live sends. Past that: `NoMemory`.
 #[derive(Copy)]
 pub struct Builder<R: Waits, A: Allocator + Copy> {
     rt: R,

@@ -50,7 +50,7 @@ impl<'a, T, R: Waits, A: Allocator + Copy> Model for DeadlineIter<'a, T, R, A> {
       channel = it.receiver.now;
       deadline = it.deadline;
       end = it.end;
-      calls = it.progress.calls;
+      calls_left = it.progress.calls_left;
     } };
 }
 
@@ -139,7 +139,7 @@ impl<'a, T: Drop, R: Waits, A: Allocator + Copy> Iterator for DeadlineIter<'a, T
 
     ghost next_gives = { IsNextInTime A };
 
-    ghost remaining = { λ it. at_most it.calls };
+    ghost remaining = { λ it. at_most it.calls_left };
 
     fn next(&mut self) -> Option<T> {
         self.progress.count(&self.receiver.shared().rt);

@@ -37,7 +37,7 @@ impl<T, R: Waits, A: Allocator + Copy> Model for IntoIter<T, R, A> {
     ghost view = { λ it. record {
       channel = it.receiver;
       fault = it.progress.fault;
-      calls = it.progress.calls;
+      calls_left = it.progress.calls_left;
     } };
 }
 
@@ -66,7 +66,7 @@ impl<T: Drop, R: Waits, A: Allocator + Copy> Iterator for IntoIter<T, R, A> {
 
     ghost next_gives = { IsNext };
 
-    ghost remaining = { λ it. at_most it.calls };
+    ghost remaining = { λ it. at_most it.calls_left };
 
     fn next(&mut self) -> Option<T> {
         self.progress.receive(&self.receiver)

@@ -37,7 +37,7 @@ impl<'a, T, R: Waits, A: Allocator + Copy> Model for Iter<'a, T, R, A> {
     ghost view = { λ it. record {
       channel = it.receiver.now;
       fault = it.progress.fault;
-      calls = it.progress.calls;
+      calls_left = it.progress.calls_left;
     } };
 }
 
@@ -93,7 +93,7 @@ impl<'a, T: Drop, R: Waits, A: Allocator + Copy> Iterator for Iter<'a, T, R, A> 
 
     ghost next_gives = { IsNext };
 
-    ghost remaining = { λ it. at_most it.calls };
+    ghost remaining = { λ it. at_most it.calls_left };
 
     fn next(&mut self) -> Option<T> {
         self.progress.receive(self.receiver)
@@ -134,7 +134,7 @@ impl<'a, T, R: Waits, A: Allocator + Copy> Model for TryIter<'a, T, R, A> {
     ghost view = { λ it. record {
       channel = it.receiver.now;
       fault = false;
-      calls = it.progress.calls;
+      calls_left = it.progress.calls_left;
     } };
 }
 
@@ -161,7 +161,7 @@ impl<'a, T: Drop, R: Waits, A: Allocator + Copy> Iterator for TryIter<'a, T, R, 
 
     ghost next_gives = { IsNext };
 
-    ghost remaining = { λ it. at_most it.calls };
+    ghost remaining = { λ it. at_most it.calls_left };
 
     fn next(&mut self) -> Option<T> {
         self.progress.count(&self.receiver.shared().rt);

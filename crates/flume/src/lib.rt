@@ -1,22 +1,19 @@
 //! Channels between threads and tasks: flume 0.12.0, written again with contracts that are proved.
-//! Messages come out in the order in which senders put them in, each at one receiver. Both ends can
-//! be cloned, and moved to other threads.
+//! Messages come out in the order in which they went in, each at one receiver. Ends can be cloned.
 //! ```
 //! let (tx, rx) = flume::on(rt).unbounded()?;
 //! tx.send(42)?;
 //! assert_eq!(rt; rx.recv(), Ok(42));
 //! ```
 //! `rt` is the runtime value that `main` is handed. If an allocation fails, a call answers
-//! `NoMemory`: nothing aborts. A channel opened by `unbounded` is never full. One opened by
-//! `bounded(n)` has room for `n` queued messages: if it is full and no receiver waits, `send` waits
-//! for room, and `try_send` hands its message back.
+//! `NoMemory`: nothing aborts. A channel of `unbounded` is never full. If one of `bounded(n)` has
+//! `n` queued messages and no receiver waits, `send` waits, and `try_send` hands its message back.
 //! ```
 //! let (tx, _rx) = flume::on(rt).bounded(1)?;
 //! assert_eq!(rt; tx.try_send(1), Ok(()));
 //! assert_eq!(rt; tx.try_send(2), Err(TrySendError::Full(2)));
 //! ```
-//! On a channel opened by `bounded(0)`, a rendezvous, `send` waits until a receiver takes its
-//! message.
+//! On a rendezvous, `bounded(0)`, `send` waits until a receiver takes its message.
 //! ```
 //! let (tx, rx) = flume::on(rt).bounded(0)?;
 //! let sender = thread::spawn(&rt, move || tx.send(2))?;

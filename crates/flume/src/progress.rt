@@ -11,39 +11,38 @@ use std::sync::Wait;
 
 #[derive(Drop)]
 pub(crate) struct Progress {
-    // How often `next` may still be called, so that a loop over the iterator is proved to end.
-    calls: u64,
+    // So that a loop over the iterator is proved to end. No run uses them up: `next` would wait.
+    calls_left: u64,
     pub(crate) fault: bool,
 }
 
 impl Progress {
     pub(crate) const fn new() -> Progress
-        ensures calls { result.calls ≡ 2 ^ 64 - 1 }
+        ensures calls_left { result.calls_left ≡ 2 ^ 64 - 1 }
         ensures fault { result.fault ≡ false }
     {
         Progress {
-            calls: u64::MAX,
+            calls_left: u64::MAX,
             fault: false,
         }
     }
 
-    // At 0 it waits for good; no run comes to that.
     pub(crate) fn count<R: Wait>(&mut self, rt: &R)
-        ensures calls { self.old.calls ≡ self.new.calls + 1 }
+        ensures calls_left { self.old.calls_left ≡ self.new.calls_left + 1 }
         ensures fault { self.new.fault ≡ self.old.fault }
     {
-        if self.calls == 0 {
+        if self.calls_left == 0 {
             for _ in rt.forever() {}
             unreachable!()
         }
-        self.calls -= 1;
+        self.calls_left -= 1;
     }
 
     pub(crate) fn receive<T: Drop, R: Waits, A: Allocator + Copy>(
         &mut self,
         receiver: &Receiver<T, R, A>,
     ) -> Option<T>
-        ensures calls { self.old.calls ≡ self.new.calls + 1 }
+        ensures calls_left { self.old.calls_left ≡ self.new.calls_left + 1 }
         ensures fault { self.new.fault ≡ true → result ≡ None }
     {
         self.count(&receiver.shared().rt);
@@ -53,7 +52,7 @@ impl Progress {
     fn item<T: Drop>(&mut self, answer: Result<T, RecvError>) -> Option<T>
         ensures item { result ≡ result_ok answer }
         ensures fault { self.new.fault ≡ is_refused answer }
-        ensures calls { self.new.calls ≡ self.old.calls }
+        ensures calls_left { self.new.calls_left ≡ self.old.calls_left }
     {
         self.fault = matches!(answer, Err(RecvError::NoMemory));
         answer.ok()

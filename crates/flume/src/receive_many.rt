@@ -25,9 +25,8 @@ use std::sync::Arc;
 use std::time::{Duration, Instant};
 
 impl<T: Drop, R: Waits, A: Allocator + Copy> Receiver<T, R, A> {
-    /// Takes the messages that are there, at most `most`, puts them behind what `into` holds, in
-    /// order, and answers how many. Blocked sends are let in as each message leaves, so it may take
-    /// more than the capacity. `NoMemory`: `into` couldn't grow. An error leaves `into` as it was.
+    /// Moves at most `most` messages to the end of `into`, and answers how many. A blocked send is
+    /// let in for each, and may come too. `NoMemory`: `into` can't grow. An error leaves it alone.
     /// ```
     /// let (tx, rx) = flume::on(rt).unbounded()?;
     /// tx.send(1)?;

@@ -29,10 +29,9 @@ use std::marker::Model;
 use std::sync::Arc;
 use std::time::{Duration, Instant};
 
-/// Receives the messages of a channel. Its clones receive from the same one, and each message goes
-/// to one of them. The channel closes with the last of them: blocked senders get their messages
-/// back, and what is queued stays until the last sender is dropped too. An error takes no message.
-/// `Disconnected`: none is there, and all senders have been dropped.
+/// Receives messages of a channel, as its clones do: each goes to one of them. The channel closes
+/// with the last: blocked senders get their messages back, and what is queued stays until no sender
+/// lives either. An error takes no message. `Disconnected`: none is there, and no sender lives.
 pub struct Receiver<T, R: Waits, A: Allocator + Copy = Global> {
     shared: Arc<Shared<T, R, A>, A>,
 }
@@ -227,9 +226,8 @@ impl<T: Drop, R: Waits, A: Allocator + Copy> Receiver<T, R, A> {
         self.shared.id == other.shared.id
     }
 
-    /// How many sends are blocked now: calls that wait, polled futures and sinks, and arms of
-    /// selections. One whose message was taken in isn't counted. One whose channel closed is, until
-    /// it has its message back. Doesn't allocate.
+    /// How many sends are blocked: calls, polled futures and sinks, and arms of selections. One
+    /// whose channel closed counts until it has its message back. Doesn't allocate.
     /// ```
     /// let (tx, rx) = flume::on(rt).bounded::<u64>(0)?;
     /// let sender = thread::spawn(&rt, move || tx.send(7))?;

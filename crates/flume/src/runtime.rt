@@ -3,9 +3,8 @@ use crate::shared::Waits;
 use std::alloc::{Alloc, Global};
 use std::thread::Threads;
 
-/// What a program that passes ends between its threads asks of its runtime value. `Waits` is enough
-/// if nothing opens a channel or starts a thread, as in the first three. To print add `Print`, to
-/// call `block_on` add `RandomSource`. For the `?` of an io result a crate lists `flume_error`.
+/// What a program that opens channels or starts threads asks of its runtime value; else `Waits` is
+/// enough. To print add `Print`, for `block_on` `RandomSource`; for `?` to `io` list `flume_error`.
 /// ```
 /// // A function that takes an end.
 /// fn send_all<R: Waits>(tx: &Sender<u64, R>, most: u64) -> io::Result<()> {

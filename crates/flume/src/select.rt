@@ -74,8 +74,8 @@ impl<'a, V, A: Allocator + Copy> Selector<'a, V, (), A> {
 }
 
 impl<'a, V, L: Arms<V, A> + Drop, A: Allocator + Copy> Selector<'a, V, L, A> {
-    /// Adds an arm that sends the message. Its mapper gets `Ok` or `Disconnected`. If another arm
-    /// completes first, the message is dropped unless it was taken in by then.
+    /// Adds an arm that sends the message. Its mapper gets `Ok` or `Disconnected`. If the arm isn't
+    /// the one that completes, a message that wasn't taken in by then is dropped.
     pub fn send<T: Drop, F, R: Waits>(
         self,
         sender: &'a Sender<T, R, A>,
@@ -93,8 +93,7 @@ impl<'a, V, L: Arms<V, A> + Drop, A: Allocator + Copy> Selector<'a, V, L, A> {
         self.with(SendArm::new(sender, message, mapper))
     }
 
-    /// Adds an arm that receives a message. Its mapper gets the message or `Disconnected`. If
-    /// another arm completes first, no message was taken.
+    /// Adds an arm that takes a message if it completes. Its mapper gets that, or `Disconnected`.
     pub fn recv<T: Drop, F, R: Waits>(
         self,
         receiver: &'a Receiver<T, R, A>,
@@ -169,9 +168,8 @@ impl<'a, V, L: AtLeastOneArm<V, A> + Drop, A: Allocator + Copy> Selector<'a, V, 
         self.select(deadline)
     }
 
-    /// Tries each arm once, in the order of `wait`. `None`: each would have to wait. `NoMemory`: in
-    /// an arm, and none behind it was tried. A message that isn't taken in is dropped. A send and a
-    /// receive of one channel don't meet each other, since neither waits.
+    /// Tries each arm once, in the order of `wait`. `None`: each would have to wait; a send doesn't
+    /// meet a receive of its own selector. `NoMemory`: in an arm, and none behind it was tried.
     /// ```
     /// let (jobs, work) = flume::on(rt).unbounded::<u64>()?;
     /// let (_stop, stopped) = flume::on(rt).bounded::<u64>(1)?;

@@ -64,8 +64,7 @@ impl<T: Drop, R: Waits, A: Allocator + Copy> Sender<T, R, A> {
         send_answer(self.send_many_until(messages, Deadline::Never))
     }
 
-    /// As `send_many`, waiting up to the deadline, as `send_deadline` does. It is one for all
-    /// messages: what is sent by then stays sent.
+    /// As `send_many`, up to the deadline, as `send_deadline` is: what is sent by then stays sent.
     /// ```
     /// let (tx, _rx) = flume::on(rt).bounded(1)?;
     /// let late = tx.send_many_deadline(vec![in rt.alloc(); 1, 2, 3]?, Instant::now(&rt)?);
@@ -141,7 +140,6 @@ impl<T: Drop, R: Waits, A: Allocator + Copy> Sender<T, R, A> {
         Ok(())
     }
 
-    // The channel was just full for the first message, so it isn't tried once more.
     fn send_first_until(
         &self,
         mut messages: VecDeque<T, A>,

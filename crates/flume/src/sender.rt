@@ -25,12 +25,10 @@ use std::marker::Model;
 use std::sync::Arc;
 use std::time::{Duration, Instant};
 
-/// Sends messages into a channel. Its clones send into the same one. The channel closes with the
-/// last of them: what is queued is still received. An error of a send has the messages that weren't
-/// taken in. `Disconnected`: all receivers have been dropped.
-///
-/// What is left after all ends is dropped under the channel's lock: a message whose `drop` upgrades
-/// a `WeakSender` of its channel would wait for itself. One that holds an end of it prevents that.
+/// Sends messages into a channel, as its clones do. The channel closes with the last of them: what
+/// is queued is still received. An error has what wasn't taken in. `Disconnected`: no receiver
+/// lives. What is left after all ends is dropped under the channel's lock: a message whose `drop`
+/// upgrades a `WeakSender` of it would wait for itself. One that holds an end of it prevents that.
 pub struct Sender<T, R: Waits, A: Allocator + Copy = Global> {
     shared: Arc<Shared<T, R, A>, A>,
 }
@@ -175,9 +173,8 @@ impl<T: Drop, R: Waits, A: Allocator + Copy> Sender<T, R, A> {
         self.shared.capacity()
     }
 
-    /// Sets the capacity; an error changes nothing. If it is raised, blocked sends are let in as
-    /// far as there is room. If it is lowered, what is queued stays, and sends wait until fewer
-    /// messages are queued than the capacity. No receiver is woken. Doesn't allocate.
+    /// Sets the capacity; an error changes nothing. A greater one lets blocked sends in as far as
+    /// there is room; a smaller one drops nothing. Wakes no receiver. Doesn't allocate.
     /// ```
     /// let (tx, _rx) = flume::on(rt).bounded(1)?;
     /// assert_eq!(rt; tx.try_send(1), Ok(()));
@@ -239,8 +236,8 @@ impl<T: Drop, R: Waits, A: Allocator + Copy> Sender<T, R, A> {
         self.shared.lock().blocked_len()
     }
 
-    /// How many receives wait now: calls, polled futures and streams, and arms of selections. One
-    /// that was woken, or was handed its message, isn't counted. Doesn't allocate.
+    /// How many receives wait, and weren't woken or handed a message: calls, polled futures and
+    /// streams, and arms of selections. Doesn't allocate.
     pub fn waiting_receivers(&self) -> usize {
         self.shared.lock().waiting_len()
     }

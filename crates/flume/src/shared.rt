@@ -8,7 +8,7 @@ ghost use Rattle.flume_calls.specs.Singles.{after_set_capacity};
 ghost use Rattle.flume.specs.LockedPolls.{HasPolled};
 ghost use Rattle.flume.specs.LockedTurns.{HasDone, HasMade};
 
-use crate::backoff::{Backoff, FIRST_PAUSES, TRIES, UNBOUNDED, pause};
+use crate::backoff::{Backoff, FIRST_PAUSES, LOCK_TRIES, UNBOUNDED, pause};
 use crate::signal::{Parker, Signal};
 use crate::task::Task;
 use flume_calls::due::Bell;
@@ -70,14 +70,14 @@ impl<T: Drop, R: Waits, A: Allocator + Copy> Shared<T, R, A> {
     #[inline(never)]
     pub(crate) fn new_parker(&self) -> Option<(Arc<Parker, A>, Signal<A>)> {
         let backoff = self.backoff();
-        let parker = Arc::new(self.alloc, Parker::new(backoff.checks)).ok()?;
+        let parker = Arc::new(self.alloc, Parker::new(backoff.checks_once_parked)).ok()?;
         let copy = Arc::try_clone(&parker).ok()?;
-        pause(backoff.pauses);
+        pause(backoff.pauses_before_parking);
         Some((parker, Signal::Parker(copy)))
     }
 
     pub(crate) fn checks(&self) -> u32 {
-        self.backoff().checks
+        self.backoff().checks_once_parked
     }
 
     fn backoff(&self) -> Backoff {
@@ -113,7 +113,7 @@ impl<T: Drop, R: Waits, A: Allocator + Copy> Shared<T, R, A> {
     #[inline(never)]
     fn wait_for_lock(&self) -> MutexGuard<'_, Locked<T, Signal<A>, A>> {
         let mut pauses = FIRST_PAUSES;
-        for _ in 0..TRIES {
+        for _ in 0..LOCK_TRIES {
             pause(pauses);
             if let Some(state) = self.state.try_lock() {
                 return state;
@@ -172,7 +172,6 @@ impl<T: Drop, R: Waits, A: Allocator + Copy> Shared<T, R, A> {
         self.call(turn)
     }
 
-    // `None`: it waits, and has left the task's waker with the channel.
     #[inline(always)]
     pub(crate) fn poll<P: Polled<T, Signal<A>, A>>(
         &self,

@@ -3,6 +3,7 @@ ghost use Rattle.std.specs.Prelude.{◌≡◌, ◌≢◌, true, false, IfSome};
 ghost use Rattle.flume_deadline.specs.declared.Deadline.{Deadline};
 ghost use Rattle.flume_deadline.specs.Deadlines.{CanBeAhead};
 
+use crate::backoff::{PAUSES_AFTER_WAKE, pause};
 use flume_deadline::{Deadline, left_until};
 use futures::task::Waker;
 use std::alloc::{Allocator, Global};
@@ -22,8 +23,7 @@ const ASLEEP: u64 = 2;
 
 pub(crate) const YIELDS: u32 = 20;
 
-/// What one blocking call waits on, and others wake it by. A wait returns at once if a wake came
-/// before it. Two wakes before a wait count as one.
+/// What a blocking call waits on. Wakes that came before a wait end it at once, and count as one.
 #[derive(Drop)]
 pub struct Parker {
     word: AtomicU64,
@@ -99,7 +99,6 @@ impl Parker {
         unreachable!()
     }
 
-    // True, without a wait, if the deadline is reached.
     #[inline(always)]
     pub(crate) fn wait_up_to<R: Wait + Clock>(&self, rt: &R, deadline: Deadline) -> bool
         ensures has_deadline { result ≡ true → deadline ≢ Deadline.Never }
@@ -119,6 +118,7 @@ impl Parker {
     fn spin(&self) -> bool {
         for done in 0..self.checks {
             if self.word.load(Ordering::SeqCst) == FIRED {
+                pause(PAUSES_AFTER_WAKE);
                 return self.take();
             }
             if self.checks.saturating_sub(done) > YIELDS {

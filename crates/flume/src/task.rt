@@ -20,7 +20,6 @@ impl Task {
         }
     }
 
-    // If the executor can't make one, this is the one that the call left before.
     #[inline(never)]
     pub(crate) fn waker<A: Allocator>(
         &self,
@@ -32,8 +31,7 @@ impl Task {
         ensures kept { Keeps cx.old cx.new }
         ensures waker { LeavesWaker cx.old cx.new result }
     {
-        // A waker wakes its task as it is dropped: one stored over that of the same task would have
-        // a task wake itself again and again. `register` leaves that one.
+        // `register` leaves one of the same task: if it were dropped, the task would wake itself.
         let mut waker = match parked {
             Some(Signal::Task(signal)) => signal.take(),
             _ => None,

@@ -33,8 +33,7 @@ module _ {T A : Type 0} where
         (entry : Step T × Reply T A) → slice_get history number ≡ Some entry
         → has_one_receipt entry (receipts_at number lists) ≡ true
 
-    -- they don't agree at a number, or a receipt with this number isn't above the one before it, or
-    -- the number is the history's length and a receipt is past the end
+    -- they don't agree there, a receipt there isn't above the one before, or one is past this end
     abbrev pub DisagreeAt : History T A → List (List (Receipt T A)) → ℕ → Type 0
     DisagreeAt history lists number =
         (AgreeAt history lists number → ⊥)

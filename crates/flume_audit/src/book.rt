@@ -62,8 +62,7 @@ impl<T, L: Ledger, W: Weigh<T, A>, A: Allocator> Model for Book<T, L, W, A> {
 }
 
 impl<T: Copy, L: Ledger, W: Weigh<T, A>, A: Allocator + Copy> Book<T, L, W, A> {
-    /// A book of a new channel, unbounded if `None`, with this many seats. `blank` is a new ledger
-    /// with one part for each. `NoMemory`: the seats couldn't be allocated.
+    /// A book of a new channel, unbounded if `None`, and its seats. `NoMemory`: no room for these.
     /// ```
     /// let (mut book, mut seats) = Book::<u64, L>::new(alloc, blank, Some(1), 2)?;
     /// for seat in seats.iter_mut() {
@@ -100,8 +99,7 @@ impl<T: Copy, L: Ledger, W: Weigh<T, A>, A: Allocator + Copy> Book<T, L, W, A> {
         Ok((book, seated))
     }
 
-    /// Makes the step, records it with its reply, and gives the seat a receipt. `NoMemory`: nothing
-    /// was done; no room for the entry, the receipt or the copies of a drained list.
+    /// Makes the step, with an entry in the history and a receipt. `NoMemory`: no room for these.
     /// ```
     /// let _ = book.step(seat, Step::TrySend(5));       // Ok(Sent { filled: None })
     /// let _ = book.step(seat, Step::TryRecv);          // Ok(Got(5))

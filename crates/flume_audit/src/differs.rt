@@ -12,9 +12,8 @@ use flume_model::step::{Reply, Step};
 use std::alloc::Allocator;
 use std::convert::AsSlice;
 
-/// The least number at which a history and the receipts of these lists disagree. They agree at one
-/// if exactly one receipt has it and equals the entry there. A receipt that isn't above the one
-/// before it disagrees at its number, one past the end at the history's length. Doesn't allocate.
+/// The least number at which they disagree: not exactly one receipt has it and equals the entry, or
+/// one that has it isn't above the one before, or one is past this end. Doesn't allocate.
 /// ```
 /// let history: [(Step<u64>, Reply<u64>); 1] = [(Step::TrySend(1), Reply::Full(1))];
 /// let receipts: Vec<Receipt<u64>> = Vec::new(alloc);

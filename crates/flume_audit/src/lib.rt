@@ -1,6 +1,5 @@
-//! A channel that records its history. A lock hides from contracts what happened under it, so an
-//! `audit::Audit` records each step there. Each user makes its steps with a *seat*, and gets a
-//! *receipt* of each; `close` answers whether history and receipts agree.
+//! A channel that records its history, since a lock hides what happened under it. Each user has a
+//! *seat* with a *receipt* of each step; `close` answers whether history and receipts agree.
 //! ```
 //! let (audit, mut seats) = Audit::<u64, L, _>::new(rt, alloc, Blank::new(1), None, 1)?;
 //! for seat in seats.iter_mut() {
@@ -10,8 +9,7 @@
 //! let (closed, book) = audit.close(seats);         // Settled
 //! book.history().len();                            // 2
 //! ```
-//! `L` names the ledger of the standard library by which a seat belongs to one audit only.
-//! `book::Book` is the same without a lock.
+//! By the ledger `L`, of the standard library, a seat is one audit's only. A `Book` has no lock.
 #![tactic(auto)]
 
 pub mod audit;

@@ -10,8 +10,7 @@ use std::convert::AsSlice;
 use std::marker::{Model, PhantomData};
 use std::sync::ledger::{Ledger, Share};
 
-/// A user's place at an audit, with a receipt for each step that was made with it. It has one part
-/// of the ledger `L`: so as many seats as the ledger has parts are all of them.
+/// A user's receipts and one part of the ledger `L`: as many seats as it has parts are all of them.
 #[derive(Drop)]
 pub struct Seat<T, L: Ledger, W: Weigh<T, A> = Ones, A: Allocator = Global> {
     pub(crate) receipts: Vec<Receipt<T, A>, A>,

@@ -9,8 +9,7 @@ use flume_model::step::{Reply, Step};
 use std::alloc::Allocator;
 use std::sync::ledger::{Book, Ledger, Share};
 
-// Does nothing at run time. A weight is a definition, so the ledger's own call, which adds a number
-// of the program, can't add it: the proof sets the book's row and the share's row itself.
+// A ledger's own call adds a number of the program; a weight is a definition: the proof adds it.
 pub(crate) fn add_weight<T, A: Allocator, L: Ledger, W: Weigh<T, A>>(
     book: &mut Book<L>,
     share: &mut Share<L>,

@@ -7,8 +7,7 @@ ghost use Rattle.flume_audit.specs.Weights.{GoesByMessages};
 use flume_model::step::{Reply, Step};
 use std::alloc::Allocator;
 
-/// A weight for each step with its reply, as a definition: no value of a program depends on it. By
-/// the weight 1 at one pair and 0 at all others, a sum counts how often the pair is there.
+/// A weight of a step with its reply, as a definition. If it's 1 at one pair only, sums count it.
 pub trait Weigh<T, A: Allocator> {
     ghost weight: { Step T → Reply T A → ℕ };
 

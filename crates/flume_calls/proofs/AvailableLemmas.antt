@@ -1,5 +1,6 @@
 -- While a message is queued or blocked there is a front, and taking it leaves one less.
-use Rattle.std.proofs.Common.{◌≡◌, ℕ, ◌+◌, ◌≤◌, ◌<◌, Bool, not, true, false, if◌then◌else◌, List, [], ◌∷◌, ◌++◌, length, refl, sym, ap, ◌∙◌, subst}
+use Rattle.std.proofs.Common.{◌≡◌, ℕ, ◌+◌, ◌≤◌, ◌<◌, Bool, not, true, false, if◌then◌else◌, List, [], ◌∷◌}
+use Rattle.std.proofs.Common.{◌++◌, length, refl, sym, ap, ◌∙◌, subst}
 use Rattle.std.proofs.Common.{arith}
 use Rattle.std.proofs.lemmas.List.{length-append, map-append, append_assoc}
 use Rattle.flume_model.specs.Limits.{is_full}
@@ -67,13 +68,15 @@ module _ {T S : Type 0} where
   pub taken_one : (s : State T S) (message : T) (rest : List T) → (with_front s).queue ≡ message ∷ rest
       → message_count (after_take rest s) + 1 ≡ message_count s
   taken_one s message rest e =
-      let left : message_count (after_take rest s) ≡ length rest + length (with_front s).blocked = refill_keeps (record (with_front s) { queue = rest }) in
+      let left : message_count (after_take rest s) ≡ length rest + length (with_front s).blocked =
+      refill_keeps (record (with_front s) { queue = rest }) in
       let front : length (with_front s).queue ≡ length (message ∷ rest) = ap length e in
       let kept : message_count (with_front s) ≡ message_count s = front_keeps s in omega arith
 
 module _ {T A S : Type 0} where
   -- what a `try_recv` says of itself is what a list of steps says of it: it needs no memory
-  pub received : {old new : State T S} {reply : Reply T A} → Extends old TryRecv reply new → (IsReachable A old → BecomesDue old TryRecv reply new)
+  pub received : {old new : State T S} {reply : Reply T A} → Extends old TryRecv reply new
+      → (IsReachable A old → BecomesDue old TryRecv reply new)
       → PossibleReply TryRecv reply → old.space ≤ new.space → (IsRefusal reply → new ≡ old) → IsTransition old TryRecv reply new
   received {old} extends becomes_due possible_reply space unchanged = record {
     extends = extends;
@@ -85,7 +88,8 @@ module _ {T A S : Type 0} where
   }
 
   -- one more step behind those that lead there
-  pub one_more : {old between new : State T S} {made : List (Step T × Reply T A)} {step : Step T} {reply : Reply T A} → StepsBetween old made between
+  pub one_more : {old between new : State T S} {made : List (Step T × Reply T A)} {step : Step T} {reply : Reply T A}
+      → StepsBetween old made between
       → IsTransition between step reply new → StepsBetween old (made ++ (step, reply) ∷ []) new
   one_more NoSteps stepped = FirstStep stepped NoSteps
   one_more (FirstStep first rest) stepped = FirstStep first (one_more rest stepped)
@@ -102,11 +106,13 @@ module _ {T S : Type 0} where
 
 module _ {T S : Type 0} (A : Type 0) where
   -- one more message is taken
-  pub takes_one : {old between new : State T S} {before items after : List T} {count : ℕ} (message : T) → Takes A old before count between items
+  pub takes_one : {old between new : State T S} {before items after : List T} {count : ℕ} (message : T)
+      → Takes A old before count between items
       → IsTransition {A = A} between TryRecv (Got message) new → after ≡ items ++ message ∷ [] → Takes A old before (count + 1) new after
   takes_one {old} {between} {new} {before} message took stepped is = record {
     taken = took.taken ++ message ∷ [];
-    reachable = subst (λ made. StepsBetween old made new) (sym (map-append (λ m. (TryRecv, Got m)) took.taken (message ∷ []))) (one_more took.reachable stepped);
+    reachable = subst (λ made. StepsBetween old made new) (sym (map-append (λ m. (TryRecv, Got m)) took.taken (message ∷ [])))
+        (one_more took.reachable stepped);
     items = is ∙ ap (λ items. items ++ message ∷ []) took.items ∙ append_assoc before took.taken (message ∷ []);
     number = let more : length (took.taken ++ message ∷ []) ≡ length took.taken + 1 = length-append took.taken (message ∷ []) in
         let number = took.number in omega arith;

@@ -54,7 +54,8 @@ module _ {S : Type 0} where
   -- if none became due, no more are
   due_sends_le : (m n : SendMap S) (tickets : List ℕ) → DueIn n m → due_sends n tickets ≤ due_sends m tickets
   due_sends_le m n [] fewer = omega arith
-  due_sends_le m n (t ∷ tickets) fewer = omega (arith, weight_le (is_due_send n t) (is_due_send m t) (fewer t), due_sends_le m n tickets fewer)
+  due_sends_le m n (t ∷ tickets) fewer =
+      omega (arith, weight_le (is_due_send n t) (is_due_send m t) (fewer t), due_sends_le m n tickets fewer)
 
   -- if none became due and one isn't due any more, fewer are
   due_sends_less : (m n : SendMap S) (k : ℕ) (tickets : List ℕ) → DueIn n m → is_due_send m k ≡ true → is_due_send n k ≡ false
@@ -115,7 +116,8 @@ module _ {T S : Type 0} where
       rw same (omega (arith, less))
 
   -- and none of them became due
-  pub still_due_before : (first old new : State T S) (t : ℕ) → NamesDueTicket old new t → DueIn old.sends first.sends → DueIn new.sends first.sends
+  pub still_due_before : (first old new : State T S) (t : ℕ) → NamesDueTicket old new t → DueIn old.sends first.sends
+      → DueIn new.sends first.sends
   still_due_before first old new t (Send due is) before k now =
       let same : new.sends ≡ noticed_send no_longer_due t old.sends = ap (λ s. s.sends) is in
       before k (none_became_due old.sends t k (rw same at now))

@@ -31,7 +31,8 @@ use Rattle.flume_core.proofs.ViewLemmas.{entry_at_log, live_by}
 use Rattle.flume_calls.specs.Batches.{StepsBetween, NoSteps, FirstStep}
 use Rattle.flume_calls.specs.Polls.{AtMostOneStep, NoStep, OneStep}
 use Rattle.flume_calls.specs.Rings.{Rings, NoneDue, Rung, NoneDueAnyMore, receiver_not_due, send_not_due}
-use Rattle.flume_calls.specs.EachIsRung.{mark_at, MayGoOn, BecomesAccepted, BecomesWoken, BecomesFilled, ChannelCloses, RingsFor, NoRing, FirstRing, EachIsRung}
+use Rattle.flume_calls.specs.EachIsRung.{mark_at, MayGoOn, BecomesAccepted, BecomesWoken, BecomesFilled}
+use Rattle.flume_calls.specs.EachIsRung.{ChannelCloses, RingsFor, NoRing, FirstRing, EachIsRung}
 use Rattle.flume_calls.proofs.RingLemmas.{named_keeps, all_not_due}
 use Rattle.flume_calls.proofs.WhoIsDueLemmas.{sends_kept, receivers_kept}
 
@@ -134,7 +135,8 @@ module _ {S : Type 0} where
   not_blocked (Some x) e blocked = let accepted : x.accepted ≡ true = cc in let no = rw accepted at blocked in cc
 
   -- one that was named is accepted as it was
-  accepted_kept : (o : Option (LiveSend S)) → option_map (λ send. send.accepted) (option_map send_not_due o) ≡ option_map (λ send. send.accepted) o
+  accepted_kept : (o : Option (LiveSend S)) → option_map (λ send. send.accepted) (option_map send_not_due o) ≡ option_map
+      (λ send. send.accepted) o
   accepted_kept None = refl
   accepted_kept (Some x) = refl
 
@@ -177,12 +179,14 @@ module _ {T S : Type 0} where
 
 module _ {T A S : Type 0} where
   -- the ticket of a live send, or of a parked receiver, was issued
-  send_below : (o : Opening) (log : Log T A) (s : State T S) → Represents o log s → (t : ℕ) (accepted : Bool) → accepted_at s t ≡ Some accepted
+  send_below : (o : Opening) (log : Log T A) (s : State T S) → Represents o log s → (t : ℕ) (accepted : Bool)
+      → accepted_at s t ≡ Some accepted
       → t < s.next
   send_below o log s h t accepted e =
       let live = (live_by _ _ accepted (sym (h.sends_are t) ∙ e)).0 in rw h.next_is (sides_apart o log h.run t live).0
 
-  receiver_below : (o : Opening) (log : Log T A) (s : State T S) → Represents o log s → (t : ℕ) (m : Mark T) → mark_at s t ≡ Some m → t < s.next
+  receiver_below : (o : Opening) (log : Log T A) (s : State T S) → Represents o log s → (t : ℕ) (m : Mark T) → mark_at s t ≡ Some m
+      → t < s.next
   receiver_below o log s h t m e = by_case (entry_of t s.entries) refl
     where
       by_case : (found : Option (Entry T (Notice S))) → entry_of t s.entries ≡ found → t < s.next
@@ -214,7 +218,8 @@ module _ {T A S : Type 0} where
         ]
       ]
   due_then o log {old} {between} h steps t (BecomesWoken was is) =
-      elim (receivers_kept t o log h steps (receiver_below o log old h t mark.Waiting was) (inl (marked (entry_of t old.entries) mark.Waiting was))) [
+      elim (receivers_kept t o log h steps (receiver_below o log old h t mark.Waiting was)
+      (inl (marked (entry_of t old.entries) mark.Waiting was))) [
         | inl waits ↦ (let no = marked (entry_of t between.entries) mark.Woken is in absurd (let none : ⊥ = cc in none))
         | inr rest ↦ elim rest [
           | inl due ↦ inr due
@@ -222,7 +227,8 @@ module _ {T A S : Type 0} where
         ]
       ]
   due_then o log {old} {between} h steps t (BecomesFilled m was is) =
-      elim (receivers_kept t o log h steps (receiver_below o log old h t mark.Waiting was) (inl (marked (entry_of t old.entries) mark.Waiting was))) [
+      elim (receivers_kept t o log h steps (receiver_below o log old h t mark.Waiting was)
+      (inl (marked (entry_of t old.entries) mark.Waiting was))) [
         | inl waits ↦ (let no = marked (entry_of t between.entries) (mark.Filled m) is in absurd (let none : ⊥ = cc in none))
         | inr rest ↦ elim rest [
           | inl due ↦ inr due
@@ -236,12 +242,14 @@ module _ {T A S : Type 0} where
   polled_steps (OneStep step reply stepped) = ((step, reply) ∷ [], FirstStep stepped NoSteps)
 
   -- each call that may go on by these steps is rung for, if a round of rings follows them
-  pub each_rung : {B : Type 0} (rings : B → ℕ → S → B → Type 0) {old between new : State T S} {bell rung : B} {made : List (Step T × Reply T A)}
+  pub each_rung : {B : Type 0} (rings : B → ℕ → S → B → Type 0) {old between new : State T S} {bell rung : B} {made : List (Step T
+      × Reply T A)}
       → IsReachable A old → StepsBetween old made between → Rings rings between bell new rung → EachIsRung rings old bell new rung
   each_rung rings {old} {between} {new} reachable steps rang =
       let list = listed rings rang in
       record {
         calls = list.calls;
         rang = list.rang;
-        each = λ t goes. list.each t (due_then reachable.0 reachable.1 reachable.2 steps t (before_rings old between new t (all_not_due rings rang) goes));
+        each = λ t goes. list.each t (due_then reachable.0 reachable.1 reachable.2 steps t
+            (before_rings old between new t (all_not_due rings rang) goes));
       }

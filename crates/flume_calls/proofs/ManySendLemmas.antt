@@ -1,5 +1,6 @@
 -- A batch of sends, from its first step on.
-use Rattle.std.proofs.Common.{◌≡◌, ◌≢◌, ◌∙◌, ℕ, ◌+◌, ◌<◌, ◌≤◌, Option, Some, None, List, [], ◌∷◌, ◌++◌, length, Result, Err, sym, ap, subst, arith}
+use Rattle.std.proofs.Common.{◌≡◌, ◌≢◌, ◌∙◌, ℕ, ◌+◌, ◌<◌, ◌≤◌, Option, Some, None, List, [], ◌∷◌, ◌++◌}
+use Rattle.std.proofs.Common.{length, Result, Err, sym, ap, subst, arith}
 use Rattle.std.proofs.Math.Nat.{lt_of_not-le}
 use Rattle.std.proofs.lemmas.List.{length-append}
 use Rattle.flume_model.specs.Entries.{round_for_fills}
@@ -54,7 +55,8 @@ module _ {T A S : Type 0} where
 
   -- the batch is one step
   pub one_step : {old new : State T S} {step : Step T} {reply : Reply T A} {messages : List T} {answer : Answer T A}
-      → IsTransition old step reply new → SendsMany messages ((step, reply) ∷ []) answer → IsBatch {A = A} (SendsMany messages) old new answer
+      → IsTransition old step reply new → SendsMany messages ((step, reply) ∷ []) answer
+      → IsBatch {A = A} (SendsMany messages) old new answer
   one_step stepped answered = record {
     made = _ ∷ [];
     reachable = FirstStep stepped NoSteps;
@@ -96,7 +98,8 @@ module _ {T S : Type 0} where
   one_at_most old new message filled joins =
       let queue = old.queue ++ message ∷ [] in
       let longer : length queue ≡ length old.queue + 1 = length-append old.queue (message ∷ []) in
-      let less : length (after_fill (round_for_fills queue old.entries) queue) ≤ length queue = no_more (round_for_fills queue old.entries) queue in
+      let less : length (after_fill (round_for_fills queue old.entries) queue) ≤ length queue =
+      no_more (round_for_fills queue old.entries) queue in
       let count : message_count new ≡ length (after_fill (round_for_fills queue old.entries) queue) + length old.blocked =
       ap message_count joins.becomes in
       omega arith

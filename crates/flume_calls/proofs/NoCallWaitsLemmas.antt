@@ -104,7 +104,8 @@ module _ {T A S : Type 0} where
       → (IsReachable A new → (bound : ℕ) × Apart bound new.entries) → IsAtRest A new
   stays_at_rest old new rest no_call_waits (NoStep same) apart = subst (IsAtRest A) (sym same) rest
   stays_at_rest old new rest no_call_waits (OneStep step reply stepped) apart =
-      let reachable : IsReachable A new = (rest.reachable.0, (step, reply) ∷ rest.reachable.1, stepped.extends rest.reachable.0 rest.reachable.1 rest.reachable.2) in
+      let reachable : IsReachable A new =
+      (rest.reachable.0, (step, reply) ∷ rest.reachable.1, stepped.extends rest.reachable.0 rest.reachable.1 rest.reachable.2) in
       let becomes_due = stepped.becomes_due rest.reachable in
       record {
         reachable = reachable;

@@ -4,7 +4,7 @@ use Rattle.std.proofs.Common.{suc, cond, eqb-true, arith}
 use Rattle.std.proofs.lemmas.Bool.{eqb-false, eq-eqb}
 use Rattle.std.proofs.lemmas.List.{map-append}
 use Rattle.std.specs.FinMap.{get}
-use Rattle.std.specs.Option.{option_map}
+use Rattle.std.specs.Option.{option_map, option_or}
 use Rattle.flume_model.specs.Entries.{entry_of}
 use Rattle.flume_model.specs.declared.entry.Entry.{Entry}
 use Rattle.flume_state.specs.declared.notice.Notice.{Notice}
@@ -14,7 +14,7 @@ use Rattle.flume_state.specs.Sends.{SendMap, noticed_send, send_due_in, NoDueSen
 use Rattle.flume_state.specs.Receivers.{EntryList, NoDueReceiver}
 use Rattle.flume_state.proofs.SendMapLemmas.{get-changed_same, get-changed_other}
 use Rattle.flume_state.specs.State.{State}
-use Rattle.flume_state.specs.Signals.{NamesDueTicket, Send, Receive, signal_of, signal_or}
+use Rattle.flume_state.specs.Signals.{NamesDueTicket, Send, Receive, signal_of}
 use Rattle.flume_calls.specs.Rings.{Rings, NoneDue, Rung, NoneDueAnyMore, receiver_not_due, send_not_due}
 
 module _ {S : Type 0} where
@@ -24,7 +24,7 @@ module _ {S : Type 0} where
   due_signal (Some send) due = (send.notice.signal, refl)
 
   -- a send's signal goes before
-  some_signal : (send parked : Option S) → ((signal : S) × (parked ≡ Some signal)) → (signal : S) × (signal_or send parked ≡ Some signal)
+  some_signal : (send parked : Option S) → ((signal : S) × (parked ≡ Some signal)) → (signal : S) × (option_or send parked ≡ Some signal)
   some_signal None parked is = is
   some_signal (Some signal) parked is = (signal, refl)
 
@@ -40,7 +40,8 @@ module _ {S : Type 0} where
   signals_stay m k t = go (eqb t k) refl
     where
       go : (b : Bool) → eqb t k ≡ b
-          → option_map (λ send. send.notice.signal) (get (noticed_send no_longer_due k m) t) ≡ option_map (λ send. send.notice.signal) (get m t)
+          → option_map (λ send. send.notice.signal) (get (noticed_send no_longer_due k m) t) ≡ option_map (λ send. send.notice.signal)
+          (get m t)
       go true e =
           let same : t ≡ k = eqb-true t k e in
           rw same (ap (option_map (λ send. send.notice.signal)) (get-changed_same m k send_not_due) ∙ not_due_signal (get m k))
@@ -57,7 +58,8 @@ module _ {S : Type 0} where
   idle_not_due (Some send) idle = ap (λ (b : Bool). Some (record send { notice = record send.notice { due = b } })) idle
 
   -- all named, with one named before
-  not_due_after : (m : SendMap S) (k t : ℕ) → option_map send_not_due (get (noticed_send no_longer_due k m) t) ≡ option_map send_not_due (get m t)
+  not_due_after : (m : SendMap S) (k t : ℕ) → option_map send_not_due (get (noticed_send no_longer_due k m) t) ≡ option_map send_not_due
+      (get m t)
   not_due_after m k t = go (eqb t k) refl
     where
       go : (b : Bool) → eqb t k ≡ b → option_map send_not_due (get (noticed_send no_longer_due k m) t) ≡ option_map send_not_due (get m t)
@@ -109,12 +111,12 @@ module _ {T S : Type 0} where
   pub named_keeps : (old new : State T S) (k : ℕ) → NamesDueTicket old new k → (t : ℕ) → signal_of new t ≡ signal_of old t
   named_keeps old new k (Send due is) t =
       let same = ap (λ s. option_map (λ send. send.notice.signal) (get s.sends t)) is ∙ signals_stay old.sends k t in
-      let entries : new.entries ≡ old.entries = ap (λ s. s.entries) is in λ i. signal_or (same i) (entry_signal t (entries i))
+      let entries : new.entries ≡ old.entries = ap (λ s. s.entries) is in λ i. option_or (same i) (entry_signal t (entries i))
   named_keeps old new k (Receive tells is) t =
       let sends : new.sends ≡ old.sends = ap (λ s. s.sends) is in
       let kept : entry_signal t new.entries ≡ entry_signal t old.entries =
       ap (entry_signal t) tells.named ∙ signal_kept tells.before tells.entry tells.later t ∙ sym (ap (entry_signal t) tells.found) in
-      λ i. signal_or (option_map (λ send. send.notice.signal) (get (sends i) t)) (kept i)
+      λ i. option_or (option_map (λ send. send.notice.signal) (get (sends i) t)) (kept i)
 
   -- its signal is the one that it left, before and after
   pub left_signal : (old new : State T S) (t : ℕ) → NamesDueTicket old new t
@@ -136,7 +138,8 @@ module _ {T S : Type 0} where
       let back = sym e in e ∙ (λ i. record old { sends = (back i).sends; entries = (back i).entries })
 
   -- naming one leaves all else
-  named_rest : (old named : State T S) (t : ℕ) → NamesDueTicket old named t → named ≡ record old { sends = named.sends; entries = named.entries }
+  named_rest : (old named : State T S) (t : ℕ) → NamesDueTicket old named t
+      → named ≡ record old { sends = named.sends; entries = named.entries }
   named_rest old named t (Send due is) = rest_from old named (noticed_send no_longer_due t old.sends) old.entries is
   named_rest old named t (Receive tells is) = rest_from old named old.sends named.entries is
 
@@ -147,7 +150,8 @@ module _ {T S : Type 0} where
   named_sends old named t (Receive tells is) k = ap (λ s. option_map send_not_due (get s.sends k)) is
 
   -- naming one leaves all entries, once named, the same
-  named_entries : (old named : State T S) (t : ℕ) → NamesDueTicket old named t → map receiver_not_due named.entries ≡ map receiver_not_due old.entries
+  named_entries : (old named : State T S) (t : ℕ) → NamesDueTicket old named t
+      → map receiver_not_due named.entries ≡ map receiver_not_due old.entries
   named_entries old named t (Send due is) = ap (λ s. map receiver_not_due s.entries) is
   named_entries old named t (Receive tells is) =
       ap (map receiver_not_due) tells.named ∙ map-append receiver_not_due tells.before _

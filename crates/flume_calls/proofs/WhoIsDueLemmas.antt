@@ -1,5 +1,6 @@
 -- After some steps a call that was parked waits as it did, or is due, or has ended.
-use Rattle.std.proofs.Common.{◌≡◌, ℕ, ◌<◌, ◌≤◌, ◌⊎◌, inl, inr, Bool, true, false, not, ◌&&◌, ◌||◌, if◌then◌else◌, List, [], ◌∷◌, ◌++◌, Option, Some, None}
+use Rattle.std.proofs.Common.{◌≡◌, ℕ, ◌<◌, ◌≤◌, ◌⊎◌, inl, inr, Bool, true, false, not, ◌&&◌, ◌||◌}
+use Rattle.std.proofs.Common.{if◌then◌else◌, List, [], ◌∷◌, ◌++◌, Option, Some, None}
 use Rattle.std.proofs.Common.{refl, sym, ap, ◌∙◌, subst, arith, eqb-true}
 use Rattle.std.specs.FinMap.{get}
 use Rattle.std.specs.Option.{option_map}
@@ -62,7 +63,8 @@ module _ {S : Type 0} where
   SendKept open_then closed o = ((blocked_in o ≡ true) × (open_then ≡ true → closed ≡ false)) ⊎ (send_due_in o ≡ true) ⊎ (o ≡ None)
 
   -- so it is after one step more
-  send_kept : (b was is : Bool) (o n : Option (LiveSend S)) → SendDue (not was && is) o n → SendKept b was o → (o ≡ None → n ≡ None) → SendKept b is n
+  send_kept : (b was is : Bool) (o n : Option (LiveSend S)) → SendDue (not was && is) o n → SendKept b was o → (o ≡ None → n ≡ None)
+      → SendKept b is n
   send_kept b was is None n due kept gone = inr (inr (gone refl))
   send_kept b was is (Some x) None due kept gone = inr (inr refl)
   send_kept b was is (Some x) (Some y) due (inr (inr none)) gone = absurd (let no : ⊥ = cc in no)
@@ -165,7 +167,8 @@ module _ {T A : Type 0} where
       by_case : (b : Bool) → is_over {T = T} {A = A} ((Poll t, Waiting) ∷ log) ≡ b → is_waiting x.mark ≡ true
       by_case true over = let gone = rw over at found in absurd (let none : ⊥ = cc in none)
       by_case false still =
-          again_waits (next_ticket o log) t unfilled.entry (entries o log) (entries_apart o log run.1) unfilled.found unfilled.empty x (rw still at found)
+          again_waits (next_ticket o log) t unfilled.entry (entries o log) (entries_apart o log run.1) unfilled.found unfilled.empty x
+          (rw still at found)
 
 -- a ticket that isn't live has no status, and one that has none isn't live
 no_status : (live waits : Bool) → None ≡ (if live then Some (not waits) else None) → live ≡ false
@@ -174,14 +177,16 @@ no_status false waits e = refl
 
 module _ {T A S : Type 0} where
   -- a parked receiver that has left has left after one step more
-  entry_left : (o : Opening) (log : Log T A) (p : Step T × Reply T A) (s after : State T S) → Represents o log s → Represents o (p ∷ log) after
+  entry_left : (o : Opening) (log : Log T A) (p : Step T × Reply T A) (s after : State T S) → Represents o log s
+      → Represents o (p ∷ log) after
       → (t : ℕ) → t < s.next → entry_of t s.entries ≡ None → entry_of t after.entries ≡ None
   entry_left o log p s after h more t below none =
       none_mapped bare (entry_of t after.entries)
       (sym (entry_at_log more t) ∙ entry_gone o log p more.run t (rw h.next_is at below) (entry_at_log h t ∙ ap (option_map bare) none))
 
   -- a send that has ended has ended after one step more
-  send_ended : (o : Opening) (log : Log T A) (p : Step T × Reply T A) (s after : State T S) → Represents o log s → Represents o (p ∷ log) after
+  send_ended : (o : Opening) (log : Log T A) (p : Step T × Reply T A) (s after : State T S) → Represents o log s
+      → Represents o (p ∷ log) after
       → (t : ℕ) → t < s.next → get s.sends t ≡ None → get after.sends t ≡ None
   send_ended o log p s after h more t below none =
       let was : is_live log t ≡ false = no_status _ _ (sym (ap (option_map (λ send. send.accepted)) none) ∙ h.sends_are t) in
@@ -189,12 +194,14 @@ module _ {T A S : Type 0} where
       none_mapped (λ send. send.accepted) (get after.sends t) (more.sends_are t ∙ rw now refl)
 
   -- tickets only rise
-  next_rises : (o : Opening) (log : Log T A) (p : Step T × Reply T A) (s after : State T S) → Represents o log s → Represents o (p ∷ log) after
+  next_rises : (o : Opening) (log : Log T A) (p : Step T × Reply T A) (s after : State T S) → Represents o log s
+      → Represents o (p ∷ log) after
       → s.next ≤ after.next
   next_rises o log p s after h more = let was = h.next_is in let now = more.next_is in omega (arith, was, now)
 
   -- a receiver that waits on or again by a step waits after it
-  waits_then : (o : Opening) (log : Log T A) (step : Step T) (reply : Reply T A) (after : State T S) → Represents o ((step, reply) ∷ log) after
+  waits_then : (o : Opening) (log : Log T A) (step : Step T) (reply : Reply T A) (after : State T S)
+      → Represents o ((step, reply) ∷ log) after
       → (t : ℕ) → waits_by step reply t ≡ true → (x : Entry T (Notice S)) → entry_of t after.entries ≡ Some x → is_waiting x.mark ≡ true
   waits_then o log (Poll u) Waiting after h t waits x found =
       let same : u ≡ t = eqb-true u t waits in
@@ -202,7 +209,8 @@ module _ {T A S : Type 0} where
   waits_then o log _ _ after h t waits x found = absurd (let none : ⊥ = cc in none)
 
   -- a send that was blocked is after some steps, or it is due, or it has ended
-  pub sends_kept : (b : Bool) (t : ℕ) (o : Opening) (log : Log T A) {s after : State T S} {made : List (Step T × Reply T A)} → Represents o log s
+  pub sends_kept : (b : Bool) (t : ℕ) (o : Opening) (log : Log T A) {s after : State T S} {made : List (Step T × Reply T A)}
+      → Represents o log s
       → StepsBetween s made after → t < s.next → SendKept b (is_closed s.senders s.receivers) (get s.sends t)
       → SendKept b (is_closed after.senders after.receivers) (get after.sends t)
   sends_kept b t o log h NoSteps below kept = kept
@@ -221,5 +229,6 @@ module _ {T A S : Type 0} where
       let more = stepped.extends o log h in
       let rises = next_rises o log (step, reply) s mid h more in
       receivers_kept t o ((step, reply) ∷ log) more rest (omega (arith, below, rises))
-      (receiver_kept (waits_by step reply t) (entry_of t s.entries) (entry_of t mid.entries) ((stepped.becomes_due (o, log, h)).receivers t) kept
+      (receiver_kept (waits_by step reply t) (entry_of t s.entries) (entry_of t mid.entries)
+      ((stepped.becomes_due (o, log, h)).receivers t) kept
       (entry_left o log (step, reply) s mid h more t below) (waits_then o log step reply mid more t))

@@ -20,8 +20,8 @@ module _ {G T : Type 0} (parked_turn : G → ℕ → Bool → G → RecvNext T �
 
 module _ {G T : Type 0} (parked_turn : G → ℕ → Bool → G → RecvNext T → Type 0)
     (waits : G → G → Bool → Type 0) where
-  -- A parked receive, from its gate and its ticket to its gate at the end and its result: it asks,
-  -- waits, and asks again until a turn ends it, at the deadline or out of memory by a withdrawal.
+  -- a parked receive, to its end: it asks and waits until a turn ends it, the last one at the
+  -- deadline or out of memory
   pub data ParkedReceive : G → ℕ → G → Result T RecvTimeoutError → Type 0 where
     Asked : {old new : G} {ticket : ℕ} {result : Result T RecvTimeoutError}
         → parked_turn old ticket false new (Done result) → ParkedReceive old ticket new result

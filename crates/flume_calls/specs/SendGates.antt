@@ -7,8 +7,7 @@ use Rattle.flume_calls.specs.declared.calls.send.SendNext.TheVariants.{Done, Nee
 
 module _ {G T : Type 0} (parked_turn : G → ℕ → Bool → G → SendNext T → Type 0)
     (waits : G → G → Bool → Type 0) where
-  -- A parked send, from its gate and its ticket to its gate at the end and its result: it asks,
-  -- waits, and asks again until a turn ends it, at the deadline by a withdrawal.
+  -- a parked send, to its end: it asks and waits until a turn ends it, at the deadline the last
   pub data ParkedSend : G → ℕ → G → Result (Unit {0}) (SendTimeoutError T) → Type 0 where
     Asked : {old new : G} {ticket : ℕ} {result : Result (Unit {0}) (SendTimeoutError T)}
         → parked_turn old ticket false new (Done result) → ParkedSend old ticket new result

@@ -7,8 +7,6 @@
 //! locked.make(FirstSend { message: 8 }, &mut bell);      // NeedSignal(8): it is full
 //! locked.make(FirstReceive, &mut bell);                  // Done(Ok(7))
 //! ```
-//! `turn`, `calls` and `single` have the turns, `gates` the loops of calls that wait, `polled` the
-//! calls that are polled, and `due` the *bell*, which notifies waiting calls.
 #![tactic(auto)]
 
 pub mod calls;

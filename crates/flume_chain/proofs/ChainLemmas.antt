@@ -1,5 +1,7 @@
 -- What the words of a chain's contracts come to on lists, for those that call it.
-use Rattle.std.proofs.Common.{◌≡◌, ℕ, suc, ◌≤◌, ◌==◌, List, [], ◌∷◌, ◌++◌, false, Option, Some, None, length, refl, sym, ap, ap₂, ◌∙◌, inl, inr, arith, append-nil, length-append, if◌then◌else◌}
+use Rattle.std.proofs.Common.{◌≡◌, ℕ, suc, ◌≤◌, ◌==◌, List, [], ◌∷◌, ◌++◌, false, Option, Some, None, length}
+use Rattle.std.proofs.Common.{refl, sym, ap, ap₂, ◌∙◌, inl, inr, arith, append-nil, length-append}
+use Rattle.std.proofs.Common.{if◌then◌else◌}
 use Rattle.std.proofs.lemmas.Bool.{cases_Bool}
 use Rattle.std.proofs.lemmas.List.{map-append}
 use Rattle.flume_chain.specs.ChainState.{times, ChainItem, places, found, without_place, put_before, listed, moved_back}
@@ -9,7 +11,8 @@ use Rattle.flume_chain.proofs.TableLemmas.{item, found_some, without_none, witho
 
 module _ {E : Type 0} where
   -- if no element is found, the first has another place, and none is found behind it
-  none_first : (x : ChainItem E) (xs : List (ChainItem E)) (k : ℕ) → found (x ∷ xs) k ≡ None → ((k == x.place) ≡ false) × (found xs k ≡ None)
+  none_first : (x : ChainItem E) (xs : List (ChainItem E)) (k : ℕ) → found (x ∷ xs) k ≡ None → ((k == x.place) ≡ false)
+      × (found xs k ≡ None)
   none_first x xs k h = elim (cases_Bool (k == x.place)) [
     | inl t ↦ (
         let none : Some x.element ≡ None = sym (ap (λ b. if b then Some x.element else found xs k) t) ∙ h in
@@ -56,20 +59,23 @@ module _ {E : Type 0} where
   ]
 
   -- without the place of an element there is one element less, if no place names two
-  pub length-without_place : (xs : List (ChainItem E)) (k : ℕ) (e : E) → times k (places xs) ≤ 1 → found xs k ≡ Some e → length xs ≡ suc (length (without_place xs k))
+  pub length-without_place : (xs : List (ChainItem E)) (k : ℕ) (e : E) → times k (places xs) ≤ 1 → found xs k ≡ Some e
+      → length xs ≡ suc (length (without_place xs k))
   length-without_place xs k e most h =
       let r = found_some xs k e h in
       let names = ap (times k) (ap places r.is ∙ places-append r.before (item k e ∷ r.after)) in
       let both = times-append k (places r.before) (k ∷ places r.after) in
       let here = once_same k in
-      let left = ap length (ap (λ (l : List (ChainItem E)). without_place l k) r.is ∙ without_at r.before r.after k e (omega arith) (omega arith)) in
+      let left = ap length (ap (λ (l : List (ChainItem E)). without_place l k) r.is
+      ∙ without_at r.before r.after k e (omega arith) (omega arith)) in
       let all = ap length r.is in
       let a = length-append r.before (item k e ∷ r.after) in
       let d = length-append r.before r.after in
       omega arith
 
   -- to change an element of two lists joined is to change it in both
-  pub changed_at-append : (f : E → E) (xs ys : List (ChainItem E)) (k : ℕ) → changed_at f k (xs ++ ys) ≡ changed_at f k xs ++ changed_at f k ys
+  pub changed_at-append : (f : E → E) (xs ys : List (ChainItem E)) (k : ℕ)
+      → changed_at f k (xs ++ ys) ≡ changed_at f k xs ++ changed_at f k ys
   changed_at-append f [] ys k = refl
   changed_at-append f (x ∷ xs) ys k =
       ap (λ (l : List (ChainItem E)). (if k == x.place then record x { element = f x.element } else x) ∷ l) (changed_at-append f xs ys k)
@@ -88,5 +94,6 @@ module _ {E : Type 0} where
       ap₂ (λ (l : List (ChainItem E)) (o : Option E). l ++ listed k o []) (without_missing xs k h) h ∙ append-nil xs
 
   -- if an element is found, moved back it is behind all others
-  pub moved_back_some : (xs : List (ChainItem E)) (k : ℕ) (e : E) → found xs k ≡ Some e → moved_back xs k ≡ without_place xs k ++ item k e ∷ []
+  pub moved_back_some : (xs : List (ChainItem E)) (k : ℕ) (e : E) → found xs k ≡ Some e
+      → moved_back xs k ≡ without_place xs k ++ item k e ∷ []
   moved_back_some xs k e h = ap (λ (o : Option E). without_place xs k ++ listed k o []) h

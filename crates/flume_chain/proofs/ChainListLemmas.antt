@@ -1,5 +1,7 @@
 -- What is known of the links of a chain, and what each call leaves of them.
-use Rattle.std.proofs.Common.{◌≡◌, ◌≢◌, ℕ, ◌+◌, ◌-◌, ◌<◌, ◌≤◌, ◌==◌, min, List, [], ◌∷◌, ◌++◌, Option, Some, None, length, length-append, refl, sym, ap, subst, ◌∙◌, inl, inr, arith, if◌then◌else◌}
+use Rattle.std.proofs.Common.{◌≡◌, ◌≢◌, ℕ, ◌+◌, ◌-◌, ◌<◌, ◌≤◌, ◌==◌, min, List, [], ◌∷◌, ◌++◌, Option, Some}
+use Rattle.std.proofs.Common.{None, length, length-append, refl, sym, ap, subst, ◌∙◌, inl, inr, arith}
+use Rattle.std.proofs.Common.{if◌then◌else◌}
 use Rattle.std.proofs.lemmas.Bool.{cases_Bool, cases_lt, eqb-true}
 use Rattle.std.specs.Option.{option_map}
 use Rattle.std.specs.Vec.{vec_len}
@@ -7,7 +9,9 @@ use Rattle.std.proofs.lemmas.List.{map-append, get_or_past}
 use Rattle.flume_chain.specs.declared.chain.links.Links.{Links}
 use Rattle.flume_chain.specs.declared.labelled.LabelledValue.{LabelledValue}
 use Rattle.flume_chain.specs.Links.{end, no_node, element_of, with, next_at, previous_at, element_at, Linked, Same}
-use Rattle.flume_chain.specs.ChainState.{once, times, ChainItem, ChainState, Table, HoldsItems, IsChain, places, without_place, put_before, table_of, room_of, chain_of, first_place, place_after}
+use Rattle.flume_chain.specs.ChainState.{once, times, ChainItem, ChainState, Table, HoldsItems, IsChain}
+use Rattle.flume_chain.specs.ChainState.{places, without_place, put_before, table_of, room_of, chain_of}
+use Rattle.flume_chain.specs.ChainState.{first_place, place_after}
 use Rattle.flume_chain.proofs.RingLemmas.{Ring, times-append, once_same}
 use Rattle.flume_chain.proofs.SpliceLemmas.{around}
 use Rattle.flume_chain.proofs.TableLemmas.{walk_in, item, walk_is, Split, found_some, without_at, put_before_at, after_at, heads, ring_of}
@@ -43,10 +47,13 @@ module _ {E : Type 0} where
     pub next : t.next c ≢ end → t.next c < t.size
     pub previous : t.previous c ≢ end → t.previous c < t.size
 
-  pub neighbours : (t : Table E) (xs ys : List (ChainItem E)) (c : ℕ) (e : E) (frees : List ℕ) → HoldsItems t (xs ++ item c e ∷ ys) frees → Neighbours t c
+  pub neighbours : (t : Table E) (xs ys : List (ChainItem E)) (c : ℕ) (e : E) (frees : List ℕ) → HoldsItems t (xs ++ item c e ∷ ys) frees
+      → Neighbours t c
   neighbours t xs ys c e frees h =
-      let names : places (xs ++ item c e ∷ ys) ≡ places xs ++ c ∷ places ys = map-append (λ (x : ChainItem E). x.place) xs (item c e ∷ ys) in
-      let r = around t.next t.previous (places xs) c (places ys) (subst (Ring t.next t.previous) names (ring_of t (xs ++ item c e ∷ ys) frees h)) in
+      let names : places (xs ++ item c e ∷ ys) ≡ places xs ++ c ∷ places ys = map-append (λ (x : ChainItem E). x.place) xs
+      (item c e ∷ ys) in
+      let r = around t.next t.previous (places xs) c (places ys)
+      (subst (Ring t.next t.previous) names (ring_of t (xs ++ item c e ∷ ys) frees h)) in
       let last_stands : 1 ≤ times (t.previous c) (end ∷ places (xs ++ item c e ∷ ys)) =
       let s = ap (times (t.previous c)) r.ends in
       let a = times-append (t.previous c) r.front (r.last ∷ []) in
@@ -73,7 +80,8 @@ module _ {E : Type 0} where
     pub none : t.next c ≡ end → None ≡ place_after items c
     pub some : t.next c ≢ end → Some (t.next c) ≡ place_after items c
 
-  pub after_is : (t : Table E) (items : List (ChainItem E)) (frees : List ℕ) (c : ℕ) (e : E) → HoldsItems t items frees → Some e ≡ t.element c → After t items c
+  pub after_is : (t : Table E) (items : List (ChainItem E)) (frees : List ℕ) (c : ℕ) (e : E) → HoldsItems t items frees
+      → Some e ≡ t.element c → After t items c
   after_is t items frees c e h is =
       let s = found_some items c e (sym (h.elements c) ∙ sym is) in
       let names : places items ≡ places s.before ++ c ∷ places s.after =
@@ -122,7 +130,8 @@ module _ {L E Z : Type 0} where
   }
 
   -- the same links are the same chain
-  pub same_chain : (old new : Links L E Z) (n : ℕ) (v : ChainState (LabelledValue L E)) → Same old new → chain_of old n ≡ v → chain_of new n ≡ v
+  pub same_chain : (old new : Links L E Z) (n : ℕ) (v : ChainState (LabelledValue L E)) → Same old new → chain_of old n ≡ v
+      → chain_of new n ≡ v
   same_chain old new n v h is =
       (λ i. record {
         items = walk_in ((same_table old new h) i) (((same_table old new h) i).next end) n;
@@ -130,7 +139,8 @@ module _ {L E Z : Type 0} where
       }) ∙ is
 
   -- the elements that the links hold are those of the chain
-  pub walked : (s : Links L E Z) (n : ℕ) (items : List (ChainItem (LabelledValue L E))) (frees : List ℕ) → HoldsItems (table_of s) items frees → n ≡ length items
+  pub walked : (s : Links L E Z) (n : ℕ) (items : List (ChainItem (LabelledValue L E))) (frees : List ℕ)
+      → HoldsItems (table_of s) items frees → n ≡ length items
       → walk_in (table_of s) s.first n ≡ items
   walked s n items frees h e = ap (λ m. walk_in (table_of s) s.first m) e ∙ walk_is (table_of s) items frees h
 
@@ -139,12 +149,14 @@ module _ {L E Z : Type 0} where
   kept_items s n v k is = sym (walked s n k.items k.frees k.holds k.count) ∙ ap (λ (x : ChainState (LabelledValue L E)). x.items) is
 
   -- how many more elements fit if no place is free
-  pub full_room : (s : Links L E Z) (items : List (ChainItem (LabelledValue L E))) (frees : List ℕ) → s.free ≡ end → HoldsItems (table_of s) items frees
+  pub full_room : (s : Links L E Z) (items : List (ChainItem (LabelledValue L E))) (frees : List ℕ) → s.free ≡ end
+      → HoldsItems (table_of s) items frees
       → vec_len s.nodes ≡ length items
   full_room s items frees e h = let n = none_free (table_of s) items frees h e in let w = h.total in omega arith
 
   -- with one more before a place, the elements are those ahead of it, it, and those behind it
-  pub put_items : (s : Links L E Z) (items : List (ChainItem (LabelledValue L E))) (frees : List ℕ) (c : ℕ) (x : (LabelledValue L E)) (y : ChainItem (LabelledValue L E)) (r : Split items c x)
+  pub put_items : (s : Links L E Z) (items : List (ChainItem (LabelledValue L E))) (frees : List ℕ) (c : ℕ) (x : (LabelledValue L E))
+      (y : ChainItem (LabelledValue L E)) (r : Split items c x)
       → HoldsItems (table_of s) items frees → put_before items c y ≡ r.before ++ y ∷ item c x ∷ r.after
   put_items s items frees c x y r h =
       let ring = ring_of (table_of s) items frees h in
@@ -164,24 +176,28 @@ module _ {L E Z : Type 0} where
       (element_at old) c
 
   -- what a place is found in: those ahead of it and those behind it
-  pub found_split : (s : Links L E Z) (items : List (ChainItem (LabelledValue L E))) (frees : List ℕ) (c : ℕ) (e : (LabelledValue L E)) → HoldsItems (table_of s) items frees
+  pub found_split : (s : Links L E Z) (items : List (ChainItem (LabelledValue L E))) (frees : List ℕ) (c : ℕ) (e : (LabelledValue L E))
+      → HoldsItems (table_of s) items frees
       → Some e ≡ element_at s c → Split items c e
   found_split s items frees c e h is = found_some items c e (sym (h.elements c) ∙ sym is)
 
   -- links with the element at a place taken out
-  pub take_holds : (old mid new : Links L E Z) (items : List (ChainItem (LabelledValue L E))) (frees : List ℕ) (c : ℕ) (e : (LabelledValue L E)) (r : Split items c e)
+  pub take_holds : (old mid new : Links L E Z) (items : List (ChainItem (LabelledValue L E))) (frees : List ℕ) (c : ℕ)
+      (e : (LabelledValue L E)) (r : Split items c e)
       → HoldsItems (table_of old) items frees
       → Linked old mid (next_at old) (previous_at old) (with (element_at old) c None) old.free → Bypassed mid new c
       → HoldsItems (table_of new) (r.before ++ r.after) (c ∷ frees)
   take_holds old mid new items frees c e r h emptied_is bypassed_is =
       let t : table_of mid ≡ emptied (table_of old) c = linked_table old mid _ _ _ _ emptied_is in
       let u : table_of new ≡ bypassed (table_of mid) c = linked_table mid new _ _ _ _ bypassed_is in
-      let held : HoldsItems (table_of old) (r.before ++ item c e ∷ r.after) frees = subst (λ (l : List (ChainItem (LabelledValue L E))). HoldsItems (table_of old) l frees) r.is h in
+      let held : HoldsItems (table_of old) (r.before ++ item c e ∷ r.after) frees =
+      subst (λ (l : List (ChainItem (LabelledValue L E))). HoldsItems (table_of old) l frees) r.is h in
       subst (λ x. HoldsItems x (r.before ++ r.after) (c ∷ frees)) (sym (u ∙ ap (λ x. bypassed x c) t))
       (takes (table_of old) r.before r.after c e frees held)
 
   -- the elements without that at a place are those ahead of it and those behind it
-  pub taken_items : (s : Links L E Z) (items : List (ChainItem (LabelledValue L E))) (frees : List ℕ) (c : ℕ) (e : (LabelledValue L E)) (r : Split items c e)
+  pub taken_items : (s : Links L E Z) (items : List (ChainItem (LabelledValue L E))) (frees : List ℕ) (c : ℕ) (e : (LabelledValue L E))
+      (r : Split items c e)
       → HoldsItems (table_of s) items frees → without_place items c ≡ r.before ++ r.after
   taken_items s items frees c e r h =
       let ring = ring_of (table_of s) items frees h in
@@ -191,7 +207,8 @@ module _ {L E Z : Type 0} where
       let n = ap (times c) names in
       let a = times-append c (places r.before) (c ∷ places r.after) in
       let o = once_same c in
-      ap (λ (l : List (ChainItem (LabelledValue L E))). without_place l c) r.is ∙ without_at r.before r.after c e (omega arith) (omega arith)
+      ap (λ (l : List (ChainItem (LabelledValue L E))). without_place l c) r.is
+      ∙ without_at r.before r.after c e (omega arith) (omega arith)
 
   -- links with no nodes are of no elements
   pub new_kept : (s : Links L E Z) → vec_len s.nodes ≡ 0 → s.first ≡ end → s.last ≡ end → s.free ≡ end → IsChain s 0
@@ -212,16 +229,19 @@ module _ {L E Z : Type 0} where
   }
 
   -- the places next to that of an element, once it was taken out of its node
-  pub beside_taken : (old mid : Links L E Z) (items : List (ChainItem (LabelledValue L E))) (frees : List ℕ) (c : ℕ) (e : (LabelledValue L E)) (r : Split items c e)
+  pub beside_taken : (old mid : Links L E Z) (items : List (ChainItem (LabelledValue L E))) (frees : List ℕ) (c : ℕ)
+      (e : (LabelledValue L E)) (r : Split items c e)
       → HoldsItems (table_of old) items frees
       → Linked old mid (next_at old) (previous_at old) (with (element_at old) c None) old.free → Neighbours (table_of mid) c
   beside_taken old mid items frees c e r h emptied_is =
-      let n = neighbours (table_of old) r.before r.after c e frees (subst (λ (l : List (ChainItem (LabelledValue L E))). HoldsItems (table_of old) l frees) r.is h) in
+      let n = neighbours (table_of old) r.before r.after c e frees
+      (subst (λ (l : List (ChainItem (LabelledValue L E))). HoldsItems (table_of old) l frees) r.is h) in
       let again : Neighbours (emptied (table_of old) c) c = record { next = n.next; previous = n.previous } in
       subst (λ t. Neighbours t c) (sym (linked_table old mid _ _ _ _ emptied_is)) again
 
   -- if there is an element, its place is below the size
-  pub place_below : (s : Links L E Z) (items : List (ChainItem (LabelledValue L E))) (frees : List ℕ) (c : ℕ) (e : (LabelledValue L E)) (r : Split items c e)
+  pub place_below : (s : Links L E Z) (items : List (ChainItem (LabelledValue L E))) (frees : List ℕ) (c : ℕ) (e : (LabelledValue L E))
+      (r : Split items c e)
       → HoldsItems (table_of s) items frees → c < vec_len s.nodes
   place_below s items frees c e r h = elim (cases_lt c (vec_len s.nodes)) [
     | inl lt ↦ lt
@@ -264,7 +284,8 @@ module _ {L E Z : Type 0} (old mid : Links L E Z) (n c : ℕ) (e : LabelledValue
     left_kept = record { items = split.before ++ split.after; frees = c ∷ k.frees; holds = left_holds; count = one_fewer }
 
     -- in their order
-    pub left_items : (v : ChainState (LabelledValue L E)) → chain_of old n ≡ v → walk_in (table_of new) new.first (n - 1) ≡ without_place v.items c
+    pub left_items : (v : ChainState (LabelledValue L E)) → chain_of old n ≡ v
+        → walk_in (table_of new) new.first (n - 1) ≡ without_place v.items c
     left_items v view =
         walked new (n - 1) (split.before ++ split.after) (c ∷ k.frees) left_holds one_fewer
         ∙ sym (taken_items old k.items k.frees c e split k.holds) ∙ ap (λ l. without_place l c) (kept_items old n v k view)

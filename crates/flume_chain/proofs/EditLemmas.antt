@@ -11,16 +11,19 @@ use Rattle.flume_chain.proofs.ChainListLemmas.{kept_items}
 
 module _ {L E Z : Type 0} where
   -- what a node holds is what is found at its place
-  pub found_kept : (s : Links L E Z) (n : ℕ) (v : ChainState (LabelledValue L E)) (k : IsChain s n) (c : ℕ) → chain_of s n ≡ v → element_at s c ≡ found v.items c
+  pub found_kept : (s : Links L E Z) (n : ℕ) (v : ChainState (LabelledValue L E)) (k : IsChain s n) (c : ℕ) → chain_of s n ≡ v
+      → element_at s c ≡ found v.items c
   found_kept s n v k c is = k.holds.elements c ∙ ap (λ l. found l c) (kept_items s n v k is)
 
   -- so is each part of it
-  pub part_kept : {X : Type 0} (f : LabelledValue L E → X) (s : Links L E Z) (n : ℕ) (v : ChainState (LabelledValue L E)) (k : IsChain s n) (c : ℕ)
+  pub part_kept : {X : Type 0} (f : LabelledValue L E → X) (s : Links L E Z) (n : ℕ) (v : ChainState (LabelledValue L E))
+      (k : IsChain s n) (c : ℕ)
       → chain_of s n ≡ v → option_map f (element_at s c) ≡ option_map f (found v.items c)
   part_kept f s n v k c is = ap (option_map f) (found_kept s n v k c is)
 
   -- each place of the elements names one
-  pub apart_kept : (s : Links L E Z) (n : ℕ) (v : ChainState (LabelledValue L E)) → IsChain s n → chain_of s n ≡ v → (j : ℕ) → times j (places v.items) ≤ 1
+  pub apart_kept : (s : Links L E Z) (n : ℕ) (v : ChainState (LabelledValue L E)) → IsChain s n → chain_of s n ≡ v → (j : ℕ)
+      → times j (places v.items) ≤ 1
   apart_kept s n v k is j =
       let ring = ring_of (table_of s) k.items k.frees k.holds in
       let most = ring.apart j in
@@ -28,7 +31,8 @@ module _ {L E Z : Type 0} where
       omega arith
 
   -- once all elements were dropped, there is room for as many more as there were
-  pub cleared_room : (old new : Links L E Z) (n : ℕ) (v : ChainState (LabelledValue L E)) (k : IsChain old n) → vec_capacity new.nodes ≡ vec_capacity old.nodes
+  pub cleared_room : (old new : Links L E Z) (n : ℕ) (v : ChainState (LabelledValue L E)) (k : IsChain old n)
+      → vec_capacity new.nodes ≡ vec_capacity old.nodes
       → chain_of old n ≡ v → room_of new 0 ≡ v.room + length v.items
   cleared_room old new n v k same is =
       let room = ap (λ (x : ChainState (LabelledValue L E)). x.room) is in

@@ -1,10 +1,12 @@
 -- What the links of a chain hold once the first element was taken out, or one was moved behind all others.
-use Rattle.std.proofs.Common.{◌≡◌, ◌≢◌, Option, ℕ, ◌==◌, List, [], ◌∷◌, ◌++◌, Some, None, map, length, refl, sym, ap, ap₂, subst, ◌∙◌, arith, length-append, if◌then◌else◌, eq-eqb}
+use Rattle.std.proofs.Common.{◌≡◌, ◌≢◌, Option, ℕ, ◌==◌, List, [], ◌∷◌, ◌++◌, Some, None, map, length, refl}
+use Rattle.std.proofs.Common.{sym, ap, ap₂, subst, ◌∙◌, arith, length-append, if◌then◌else◌, eq-eqb}
 use Rattle.std.specs.Vec.{vec_len}
 use Rattle.flume_chain.specs.declared.chain.links.Links.{Links}
 use Rattle.flume_chain.specs.declared.labelled.LabelledValue.{LabelledValue}
 use Rattle.flume_chain.specs.Links.{end, with, next_at, previous_at, element_at, Linked, HasNode}
-use Rattle.flume_chain.specs.ChainState.{once, ChainItem, ChainState, Table, HoldsItems, IsChain, places, found, listed, moved_back, table_of, chain_of}
+use Rattle.flume_chain.specs.ChainState.{once, ChainItem, ChainState, Table, HoldsItems, IsChain, places}
+use Rattle.flume_chain.specs.ChainState.{found, listed, moved_back, table_of, chain_of}
 use Rattle.flume_chain.proofs.RingLemmas.{once_same, with_same}
 use Rattle.flume_chain.proofs.TableLemmas.{walk_in, item, Split, with_again}
 use Rattle.flume_chain.proofs.StepLemmas.{linked_table, emptied, bypassed, filled, last_below, takes, puts_last}
@@ -21,7 +23,8 @@ module _ {L E Z : Type 0} where
     pub before : previous_at s s.first ≡ end
 
   -- if a place is the first, there is an element there
-  pub begun : (s : Links L E Z) (items : List (ChainItem (LabelledValue L E))) (frees : List ℕ) → HoldsItems (table_of s) items frees → s.first ≢ end → Begun s items
+  pub begun : (s : Links L E Z) (items : List (ChainItem (LabelledValue L E))) (frees : List ℕ) → HoldsItems (table_of s) items frees
+      → s.first ≢ end → Begun s items
   begun s [] frees h ne =
       let f : s.first ∷ [] ≡ end ∷ [] = h.forward in
       absurd (ne cc)
@@ -40,7 +43,8 @@ module _ {L E Z : Type 0} where
       }
 
   -- if no place is the first, there is no element
-  pub none_begun : (s : Links L E Z) (items : List (ChainItem (LabelledValue L E))) (frees : List ℕ) → HoldsItems (table_of s) items frees → s.first ≡ end → items ≡ []
+  pub none_begun : (s : Links L E Z) (items : List (ChainItem (LabelledValue L E))) (frees : List ℕ) → HoldsItems (table_of s) items frees
+      → s.first ≡ end → items ≡ []
   none_begun s [] frees h is = refl
   none_begun s (x ∷ xs) frees h is =
       let f : s.first ∷ map (next_at s) (x.place ∷ places xs) ≡ x.place ∷ (places xs ++ end ∷ []) = h.forward in
@@ -163,7 +167,8 @@ module _ {L E Z : Type 0} (old mid : Links L E Z) (n c : ℕ) (e : (LabelledValu
       }
 
   -- and so the chain has that element behind all others
-  pub moved_items : (v : ChainState (LabelledValue L E)) → chain_of old n ≡ v → (new : Links L E Z) → LinkedLast new → walk_in (table_of new) new.first n ≡ moved_back v.items c
+  pub moved_items : (v : ChainState (LabelledValue L E)) → chain_of old n ≡ v → (new : Links L E Z) → LinkedLast new
+      → walk_in (table_of new) new.first n ≡ moved_back v.items c
   unfolding moved_kept
   moved_items v view new last =
       let m = moved_kept new last in

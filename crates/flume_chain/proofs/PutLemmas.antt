@@ -1,5 +1,7 @@
 -- What the links of a chain hold once an element was put into the free node, or into one more.
-use Rattle.std.proofs.Common.{◌≡◌, ◌≢◌, Option, ℕ, ◌+◌, ◌<◌, ◌==◌, List, [], ◌∷◌, ◌++◌, Some, None, length, refl, sym, ap, subst, subst₂, ◌∙◌, inl, inr, arith, append-nil, if◌then◌else◌, ne_eqb}
+use Rattle.std.proofs.Common.{◌≡◌, ◌≢◌, Option, ℕ, ◌+◌, ◌<◌, ◌==◌, List, [], ◌∷◌, ◌++◌, Some, None, length}
+use Rattle.std.proofs.Common.{refl, sym, ap, subst, subst₂, ◌∙◌, inl, inr, arith, append-nil, if◌then◌else◌}
+use Rattle.std.proofs.Common.{ne_eqb}
 use Rattle.std.proofs.lemmas.Bool.{cases_Bool, cases_eq}
 use Rattle.std.proofs.lemmas.List.{map-append}
 use Rattle.std.specs.Prelude.{Result, Ok, Err, OnErr}
@@ -43,13 +45,15 @@ module _ {L E Z : Type 0} where
     pub fresh : found (xs ++ ys) place ≡ None
 
   -- the free place is below the size, or the end
-  pub free_stands : (s : Links L E Z) (items : List (ChainItem (LabelledValue L E))) (frees : List ℕ) → HoldsItems (table_of s) items frees → HasNode s s.free
+  pub free_stands : (s : Links L E Z) (items : List (ChainItem (LabelledValue L E))) (frees : List ℕ)
+      → HoldsItems (table_of s) items frees → HasNode s s.free
   free_stands s items frees h ne =
       let r = first_free (table_of s) items frees h ne in
       free_below (table_of s) items s.free r.rest (subst (λ (l : List ℕ). HoldsItems (table_of s) items l) r.is h)
 
 -- links of elements xs and ys, with one put between them
-module _ {L E Z : Type 0} (old new : Links L E Z) (xs ys : List (ChainItem (LabelledValue L E))) (frees : List ℕ) (place c : ℕ) (e : (LabelledValue L E)) (later : List ℕ)
+module _ {L E Z : Type 0} (old new : Links L E Z) (xs ys : List (ChainItem (LabelledValue L E))) (frees : List ℕ) (place c : ℕ)
+    (e : (LabelledValue L E)) (later : List ℕ)
     (h : HoldsItems (table_of old) (xs ++ ys) frees) (before : places ys ++ end ∷ [] ≡ c ∷ later) (p : PutBefore old new place c e) where
   -- if a node was free they hold it there
   put_reused : old.free ≢ end → Holding new xs ys place e
@@ -124,21 +128,24 @@ module _ {L E Z : Type 0} (old new : Links L E Z) (xs ys : List (ChainItem (Labe
 
 module _ {L E Z : Type 0} where
   -- links with an element put behind all others
-  pub push_holds : (old new : Links L E Z) (items : List (ChainItem (LabelledValue L E))) (frees : List ℕ) (place : ℕ) (e : (LabelledValue L E))
+  pub push_holds : (old new : Links L E Z) (items : List (ChainItem (LabelledValue L E))) (frees : List ℕ) (place : ℕ)
+      (e : (LabelledValue L E))
       → HoldsItems (table_of old) items frees → PutBefore old new place end e → Holding new items [] place e
   push_holds old new items frees place e h p =
       put_holds old new items [] frees place end e []
       (subst (λ (l : List (ChainItem (LabelledValue L E))). HoldsItems (table_of old) l frees) (sym (append-nil items)) h) refl p
 
   -- links with an element put before that at a place
-  pub insert_holds : (old new : Links L E Z) (items : List (ChainItem (LabelledValue L E))) (frees : List ℕ) (c : ℕ) (x : (LabelledValue L E)) (place : ℕ) (e : (LabelledValue L E)) (r : Split items c x)
+  pub insert_holds : (old new : Links L E Z) (items : List (ChainItem (LabelledValue L E))) (frees : List ℕ) (c : ℕ)
+      (x : (LabelledValue L E)) (place : ℕ) (e : (LabelledValue L E)) (r : Split items c x)
       → HoldsItems (table_of old) items frees → PutBefore old new place c e → Holding new r.before (item c x ∷ r.after) place e
   insert_holds old new items frees c x place e r h p =
       put_holds old new r.before (item c x ∷ r.after) frees place c e (places r.after ++ end ∷ [])
       (subst (λ (l : List (ChainItem (LabelledValue L E))). HoldsItems (table_of old) l frees) r.is h) refl p
 
   -- with one more element there is room for one less, if there was room
-  pub put_room : (old new : Links L E Z) (items : List (ChainItem (LabelledValue L E))) (frees : List ℕ) (n place : ℕ) (f g : ℕ → ℕ) (v : ℕ → Option (LabelledValue L E))
+  pub put_room : (old new : Links L E Z) (items : List (ChainItem (LabelledValue L E))) (frees : List ℕ) (n place : ℕ) (f g : ℕ
+      → ℕ) (v : ℕ → Option (LabelledValue L E))
       → HoldsItems (table_of old) items frees → n ≡ length items → Put old new place f g v → 0 < room_of old n
       → room_of new (n + 1) + 1 ≡ room_of old n
   put_room old new items frees n place f g v h count p some = elim (cases_eq old.free end) [

@@ -1,5 +1,6 @@
 -- A ring of places: each has one after it and one before it, and `end` closes it.
-use Rattle.std.proofs.Common.{◌≡◌, ℕ, suc, ◌+◌, ◌≤◌, ◌==◌, List, [], ◌∷◌, ◌++◌, false, map, length, refl, sym, ap, ap₂, ◌∙◌, inl, inr, arith, length-append, if◌then◌else◌, eq-eqb, ne_eqb}
+use Rattle.std.proofs.Common.{◌≡◌, ℕ, suc, ◌+◌, ◌≤◌, ◌==◌, List, [], ◌∷◌, ◌++◌, false, map, length, refl, sym}
+use Rattle.std.proofs.Common.{ap, ap₂, ◌∙◌, inl, inr, arith, length-append, if◌then◌else◌, eq-eqb, ne_eqb}
 use Rattle.std.proofs.lemmas.Bool.{cases_Bool, cases_eq, eqb-false}
 use Rattle.flume_chain.specs.Links.{end, with}
 use Rattle.flume_chain.specs.ChainState.{once, times}

@@ -3,7 +3,8 @@ use Rattle.std.proofs.Common.{◌≡◌, ℕ, ◌+◌, ◌≤◌, List, [], ◌�
 use Rattle.std.proofs.lemmas.List.{map-append}
 use Rattle.flume_chain.specs.Links.{end, with}
 use Rattle.flume_chain.specs.ChainState.{once, times}
-use Rattle.flume_chain.proofs.RingLemmas.{Ring, parts, ends, begins, times-append, once_same, once_back, once_more, with_same, with_other, map_with}
+use Rattle.flume_chain.proofs.RingLemmas.{Ring, parts, ends, begins, times-append, once_same, once_back}
+use Rattle.flume_chain.proofs.RingLemmas.{once_more, with_same, with_other, map_with}
 
 -- if a ring is cut between the places xs and ys: the last ahead of the cut, and the head behind it
 pub record Between (f g : ℕ → ℕ) (xs ys : List ℕ) : Type 0 where

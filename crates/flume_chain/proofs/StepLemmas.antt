@@ -1,5 +1,7 @@
 -- What a table holds once a node is made, an element put in or taken out.
-use Rattle.std.proofs.Common.{◌≡◌, ◌≢◌, ℕ, suc, ◌+◌, ◌<◌, ◌≤◌, ◌==◌, List, [], ◌∷◌, ◌++◌, Option, Some, None, map, length, refl, sym, ap, ap₂, subst, subst₂, ◌∙◌, inl, inr, arith, append-nil, length-append, if◌then◌else◌, ne_eqb}
+use Rattle.std.proofs.Common.{◌≡◌, ◌≢◌, ℕ, suc, ◌+◌, ◌<◌, ◌≤◌, ◌==◌, List, [], ◌∷◌, ◌++◌, Option, Some, None}
+use Rattle.std.proofs.Common.{map, length, refl, sym, ap, ap₂, subst, subst₂, ◌∙◌, inl, inr, arith}
+use Rattle.std.proofs.Common.{append-nil, length-append, if◌then◌else◌, ne_eqb}
 use Rattle.std.proofs.lemmas.Bool.{cases_Bool, cases_eq, cases_lt, eqb-true}
 use Rattle.std.proofs.lemmas.List.{map-append}
 use Rattle.std.specs.Vec.{vec_len}
@@ -103,7 +105,8 @@ module _ {E : Type 0} where
   ]
 
   -- the last place is the end or below the size
-  pub last_below : (t : Table E) (items : List (ChainItem E)) (frees : List ℕ) → HoldsItems t items frees → t.previous end ≢ end → t.previous end < t.size
+  pub last_below : (t : Table E) (items : List (ChainItem E)) (frees : List ℕ) → HoldsItems t items frees → t.previous end ≢ end
+      → t.previous end < t.size
   last_below t items frees h =
       let ring = ring_of t items frees h in
       let r = between t.next t.previous (places items) [] (subst (Ring t.next t.previous) (sym (append-nil (places items))) ring) in
@@ -118,7 +121,8 @@ module _ {E : Type 0} where
       ring_below t items frees (t.previous end) h (subst (λ k. 1 ≤ times k (end ∷ places items)) (sym last_is) occupied)
 
   -- with one more node there is one more free place
-  pub grows : (t : Table E) (items : List (ChainItem E)) (frees : List ℕ) → HoldsItems t items frees → t.size < end → HoldsItems (grown t) items (t.size ∷ frees)
+  pub grows : (t : Table E) (items : List (ChainItem E)) (frees : List ℕ) → HoldsItems t items frees → t.size < end
+      → HoldsItems (grown t) items (t.size ∷ frees)
   grows t items frees h lt =
       let none = h.beyond t.size (omega arith) in
       let size_end : once end t.size ≡ 0 = ap (λ b. if b then 1 else 0) (ne_eqb end t.size (omega arith)) in
@@ -130,16 +134,19 @@ module _ {E : Type 0} where
         forward = map_with t.next t.size t.free (end ∷ places items) placed_none ∙ h.forward;
         backward = map_with t.previous t.size end (places items ++ end ∷ []) listed_none ∙ h.backward;
         freed = ap (λ (l : List ℕ). t.size ∷ l)
-            (ap₂ (λ (y : ℕ) (ys : List ℕ). y ∷ ys) (with_same t.next t.size t.free) (map_with t.next t.size t.free frees (omega arith)) ∙ h.freed);
+            (ap₂ (λ (y : ℕ) (ys : List ℕ). y ∷ ys) (with_same t.next t.size t.free) (map_with t.next t.size t.free frees (omega arith))
+            ∙ h.freed);
         elements = λ k. elim (cases_Bool (k == t.size)) [
-          | inl e ↦ ap (λ b. if b then None else t.element k) e ∙ sym (found_none items k (ap (λ x. times x (places items)) (eqb-true k t.size e) ∙ (omega arith)))
+          | inl e ↦ ap (λ b. if b then None else t.element k) e
+              ∙ sym (found_none items k (ap (λ x. times x (places items)) (eqb-true k t.size e) ∙ (omega arith)))
           | inr e ↦ ap (λ b. if b then None else t.element k) e ∙ h.elements k
         ];
         within = λ k l. elim (cases_eq t.size k) [
           | inl e ↦ (
               let one = ap (λ x. once t.size x) e in
               let is = once_same t.size in
-              let zero_here : times k (places items) + times k frees ≡ 0 = ap (λ x. times x (places items) + times x frees) (sym e) ∙ none in
+              let zero_here : times k (places items) + times k frees ≡ 0 = ap (λ x. times x (places items) + times x frees) (sym e)
+              ∙ none in
               omega arith
               )
           | inr ne ↦ (
@@ -178,8 +185,10 @@ module _ {E : Type 0} where
       → HoldsItems (filled t next e) (xs ++ item t.free e ∷ ys) rest
   puts t xs ys rest e next later h at =
       let names_old : places (xs ++ ys) ≡ places xs ++ places ys = map-append (λ (x : ChainItem E). x.place) xs ys in
-      let names : places (xs ++ item t.free e ∷ ys) ≡ places xs ++ t.free ∷ places ys = map-append (λ (x : ChainItem E). x.place) xs (item t.free e ∷ ys) in
-      let ring : Ring t.next t.previous (places xs ++ places ys) = subst (Ring t.next t.previous) names_old (ring_of t (xs ++ ys) (t.free ∷ rest) h) in
+      let names : places (xs ++ item t.free e ∷ ys) ≡ places xs ++ t.free ∷ places ys = map-append (λ (x : ChainItem E). x.place) xs
+      (item t.free e ∷ ys) in
+      let ring : Ring t.next t.previous (places xs ++ places ys) = subst (Ring t.next t.previous) names_old
+      (ring_of t (xs ++ ys) (t.free ∷ rest) h) in
       let r = between t.next t.previous (places xs) (places ys) ring in
       let meets : next ∷ later ≡ r.head ∷ r.rest = sym at ∙ r.begins in
       let head_is : r.head ≡ next = cc in
@@ -206,10 +215,12 @@ module _ {E : Type 0} where
       omega arith in
       let last_apart : times r.last (t.free ∷ rest) ≡ 0 = ring_apart t (xs ++ ys) (t.free ∷ rest) r.last h occupied in
       let last_rest : times (t.previous next) rest ≡ 0 = ap (λ x. times x rest) last_is ∙ (omega arith) in
-      let put : Ring (with (with t.next t.free r.head) r.last t.free) (with (with t.previous t.free r.last) r.head t.free) (places xs ++ t.free ∷ places ys) =
+      let put : Ring (with (with t.next t.free r.head) r.last t.free) (with (with t.previous t.free r.last) r.head t.free)
+      (places xs ++ t.free ∷ places ys) =
       inserted t.next t.previous (places xs) (places ys) t.free ring r fresh in
       let put_next : Ring (filled t next e).next (filled t next e).previous (places xs ++ t.free ∷ places ys) =
-      subst₂ (λ (x y : ℕ). Ring (with (with t.next t.free x) y t.free) (with (with t.previous t.free y) x t.free) (places xs ++ t.free ∷ places ys))
+      subst₂ (λ (x y : ℕ). Ring (with (with t.next t.free x) y t.free) (with (with t.previous t.free y) x t.free)
+      (places xs ++ t.free ∷ places ys))
       head_is (sym last_is) put in
       let done : Ring (filled t next e).next (filled t next e).previous (places (xs ++ item t.free e ∷ ys)) =
       subst (Ring (filled t next e).next (filled t next e).previous) (sym names) put_next in
@@ -219,7 +230,8 @@ module _ {E : Type 0} where
         forward = done.forward;
         backward = done.backward;
         freed = ap (λ (l : List ℕ). t.next t.free ∷ l)
-            (map_with (with t.next t.free next) (t.previous next) t.free rest last_rest ∙ map_with t.next t.free next rest (omega arith)) ∙ tails;
+            (map_with (with t.next t.free next) (t.previous next) t.free rest last_rest ∙ map_with t.next t.free next rest (omega arith))
+            ∙ tails;
         elements = λ k.
             ap (λ o. if k == t.free then Some e else o) (h.elements k)
             ∙ sym (found_put xs ys t.free e k (omega arith));
@@ -245,7 +257,8 @@ module _ {E : Type 0} where
   takes t xs ys c e frees h =
       let items : List (ChainItem E) = xs ++ item c e ∷ ys in
       let ring = ring_of t (xs ++ item c e ∷ ys) frees h in
-      let names : places (xs ++ item c e ∷ ys) ≡ places xs ++ c ∷ places ys = map-append (λ (x : ChainItem E). x.place) xs (item c e ∷ ys) in
+      let names : places (xs ++ item c e ∷ ys) ≡ places xs ++ c ∷ places ys = map-append (λ (x : ChainItem E). x.place) xs
+      (item c e ∷ ys) in
       let names_left : places (xs ++ ys) ≡ places xs ++ places ys = map-append (λ (x : ChainItem E). x.place) xs ys in
       let ring_at : Ring t.next t.previous (places xs ++ c ∷ places ys) = subst (Ring t.next t.previous) names ring in
       let r = around t.next t.previous (places xs) c (places ys) ring_at in
@@ -284,7 +297,8 @@ module _ {E : Type 0} where
         backward = done.backward;
         freed = ap (λ (l : List ℕ). c ∷ l)
             (ap₂ (λ (y : ℕ) (zs : List ℕ). y ∷ zs) (with_same (with t.next (t.previous c) (t.next c)) c t.free)
-            (map_with (with t.next (t.previous c) (t.next c)) c t.free frees c_apart ∙ map_with t.next (t.previous c) (t.next c) frees last_apart)
+            (map_with (with t.next (t.previous c) (t.next c)) c t.free frees c_apart
+            ∙ map_with t.next (t.previous c) (t.next c) frees last_apart)
             ∙ h.freed);
         elements = λ k.
             ap (λ o. if k == c then None else o) (h.elements k ∙ found_put xs ys c e k ahead_none)

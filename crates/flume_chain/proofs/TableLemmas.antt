@@ -1,8 +1,10 @@
 -- What the elements of a chain are at their places, and that the walk through its links is them.
-use Rattle.std.proofs.Common.{◌≡◌, ◌≢◌, ℕ, suc, ◌≤◌, ◌==◌, List, [], ◌∷◌, ◌++◌, false, Option, Some, None, map, length, refl, sym, ap, ap₂, ◌∙◌, inl, inr, arith, if◌then◌else◌, eq-eqb}
+use Rattle.std.proofs.Common.{◌≡◌, ◌≢◌, ℕ, suc, ◌≤◌, ◌==◌, List, [], ◌∷◌, ◌++◌, false, Option, Some, None}
+use Rattle.std.proofs.Common.{map, length, refl, sym, ap, ap₂, ◌∙◌, inl, inr, arith, if◌then◌else◌, eq-eqb}
 use Rattle.std.proofs.lemmas.Bool.{cases_Bool, cases_lt, eqb-true}
 use Rattle.flume_chain.specs.Links.{end, with}
-use Rattle.flume_chain.specs.ChainState.{once, times, ChainItem, Table, HoldsItems, places, found, without_place, put_before, first_place, place_after, listed, walk}
+use Rattle.flume_chain.specs.ChainState.{once, times, ChainItem, Table, HoldsItems, places, found}
+use Rattle.flume_chain.specs.ChainState.{without_place, put_before, first_place, place_after, listed, walk}
 use Rattle.flume_chain.proofs.RingLemmas.{Ring, once_same, once_none, once_back, once_more, with_same, with_other, map_with}
 
 module _ {X : Type 0} where
@@ -82,7 +84,8 @@ module _ {E : Type 0} where
   without_at [] ys c e h g =
       ap (λ b. if b then without_place ys c else item c e ∷ without_place ys c) (eq-eqb c c refl) ∙ without_none ys c g
   without_at (x ∷ xs) ys c e h g =
-      ap (λ b. if b then without_place (xs ++ item c e ∷ ys) c else x ∷ without_place (xs ++ item c e ∷ ys) c) (once_none x.place c (omega arith))
+      ap (λ b. if b then without_place (xs ++ item c e ∷ ys) c else x ∷ without_place (xs ++ item c e ∷ ys) c)
+      (once_none x.place c (omega arith))
       ∙ ap (λ (l : List (ChainItem E)). x ∷ l) (without_at xs ys c e (omega arith) g)
 
   -- with one more before an element, it is between those ahead of that and that
@@ -136,7 +139,8 @@ module _ {E : Type 0} where
       ∙ ap (λ (l : List (ChainItem E)). x ∷ l) (walk_from t xs x.place tails values)
 
   -- the elements and the places of a table are in a ring
-  pub ring_of : (t : Table E) (items : List (ChainItem E)) (frees : List ℕ) → HoldsItems t items frees → Ring t.next t.previous (places items)
+  pub ring_of : (t : Table E) (items : List (ChainItem E)) (frees : List ℕ) → HoldsItems t items frees
+      → Ring t.next t.previous (places items)
   ring_of t items frees h = record {
     forward = h.forward;
     backward = h.backward;
@@ -149,7 +153,8 @@ module _ {E : Type 0} where
   }
 
   -- the walk through the links of a table is its elements
-  pub walk_is : (t : Table E) (items : List (ChainItem E)) (frees : List ℕ) → HoldsItems t items frees → walk_in t (t.next end) (length items) ≡ items
+  pub walk_is : (t : Table E) (items : List (ChainItem E)) (frees : List ℕ) → HoldsItems t items frees
+      → walk_in t (t.next end) (length items) ≡ items
   walk_is t items frees h =
       let r = ring_of t items frees h in
       walk_from t items end h.forward
@@ -168,7 +173,8 @@ module _ {E : Type 0} where
   ]
 
   -- the element behind that at a place is the first of those behind it
-  pub after_at : (xs ys : List (ChainItem E)) (c : ℕ) (e : E) → times c (places xs) ≡ 0 → place_after (xs ++ item c e ∷ ys) c ≡ first_place ys
+  pub after_at : (xs ys : List (ChainItem E)) (c : ℕ) (e : E) → times c (places xs) ≡ 0
+      → place_after (xs ++ item c e ∷ ys) c ≡ first_place ys
   after_at [] ys c e h = ap (λ b. if b then first_place ys else place_after ys c) (eq-eqb c c refl)
   after_at (x ∷ xs) ys c e h =
       ap (λ b. if b then first_place (xs ++ item c e ∷ ys) else place_after (xs ++ item c e ∷ ys) c)
@@ -180,7 +186,8 @@ module _ {E : Type 0} where
     pub none : head ≡ end → None ≡ first_place ys
     pub some : head ≢ end → Some head ≡ first_place ys
 
-  pub heads : (head : ℕ) (rest : List ℕ) (ys : List (ChainItem E)) → times end (places ys) ≡ 0 → places ys ++ end ∷ [] ≡ head ∷ rest → Heads head ys
+  pub heads : (head : ℕ) (rest : List ℕ) (ys : List (ChainItem E)) → times end (places ys) ≡ 0 → places ys ++ end ∷ [] ≡ head ∷ rest
+      → Heads head ys
   heads head rest [] h e = record { none = λ _. refl; some = λ ne. absurd (ne cc) }
   heads head rest (y ∷ ys) h e =
       let name : y.place ≡ head = cc in

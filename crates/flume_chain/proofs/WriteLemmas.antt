@@ -1,5 +1,6 @@
 -- What a chain is once a value or a label was written at a place.
-use Rattle.std.proofs.Common.{◌≡◌, ℕ, ◌+◌, ◌<◌, ◌==◌, List, [], ◌∷◌, ◌++◌, false, Some, IsSome, map, length, refl, sym, ap, subst, ◌∙◌, inl, inr, arith, if◌then◌else◌, ne_eqb}
+use Rattle.std.proofs.Common.{◌≡◌, ℕ, ◌+◌, ◌<◌, ◌==◌, List, [], ◌∷◌, ◌++◌, false, Some, IsSome, map, length}
+use Rattle.std.proofs.Common.{refl, sym, ap, subst, ◌∙◌, inl, inr, arith, if◌then◌else◌, ne_eqb}
 use Rattle.std.proofs.lemmas.Bool.{cases_Bool, cases_lt, eqb-true, eqb-false}
 use Rattle.std.proofs.lemmas.List.{get_or_past, get_or-set_same, get_or-set_other}
 use Rattle.std.specs.Option.{option_map}
@@ -8,7 +9,9 @@ use Rattle.flume_chain.specs.declared.chain.node.Node.{Node}
 use Rattle.flume_chain.specs.declared.chain.node.Node.TheVariants.{Free, Occupied}
 use Rattle.flume_chain.specs.declared.chain.links.Links.{Links}
 use Rattle.flume_chain.specs.declared.labelled.LabelledValue.{LabelledValue}
-use Rattle.flume_chain.specs.Links.{end, no_node, with, node_at, next_of, previous_of, element_of, with_value_of, links_with_value, with_new_value, next_at, previous_at, element_at, Linked}
+use Rattle.flume_chain.specs.Links.{end, no_node, with, node_at, next_of, previous_of, element_of}
+use Rattle.flume_chain.specs.Links.{with_value_of, links_with_value, with_new_value, next_at, previous_at}
+use Rattle.flume_chain.specs.Links.{element_at, Linked}
 use Rattle.flume_chain.specs.ChainState.{times, ChainItem, ChainState, Table, HoldsItems, IsChain, places, found, table_of, chain_of}
 use Rattle.flume_chain.specs.ChangedAt.{changed_at}
 use Rattle.flume_chain.proofs.StepLemmas.{linked_table}
@@ -80,7 +83,8 @@ module _ {E : Type 0} (f : E → E) where
   }
 
   -- it holds the elements with f of that at the place
-  pub writes : (t : Table E) (items : List (ChainItem E)) (frees : List ℕ) (k : ℕ) → HoldsItems t items frees → HoldsItems (written t k) (changed_at f k items) frees
+  pub writes : (t : Table E) (items : List (ChainItem E)) (frees : List ℕ) (k : ℕ) → HoldsItems t items frees
+      → HoldsItems (written t k) (changed_at f k items) frees
   writes t items frees k h =
       let names = places-changed_at items k in
       let count = length-changed_at items k in
@@ -179,7 +183,8 @@ module _ {L E Z : Type 0} (s : Links L E Z) (n c : ℕ) (w : E) (k : IsChain s n
   written_kept = edited_kept (with_new_value w) s (links_with_value s c w) n c k (value_written s c w (node_below s c some))
 
   -- and so the chain has the other one at the place
-  pub written_chain : (v : ChainState (LabelledValue L E)) → chain_of s n ≡ v → chain_of (links_with_value s c w) n ≡ record v { items = changed_at (with_new_value w) c v.items }
+  pub written_chain : (v : ChainState (LabelledValue L E)) → chain_of s n ≡ v
+      → chain_of (links_with_value s c w) n ≡ record v { items = changed_at (with_new_value w) c v.items }
   written_chain v view =
       let there = edited_items (with_new_value w) s (links_with_value s c w) n c k (value_written s c w (node_below s c some)) v view in
       λ i. record { items = there i; room = (ap (λ (x : ChainState (LabelledValue L E)). x.room) view) i }

@@ -39,7 +39,6 @@ impl<L: Drop, E: Drop, A: Allocator> Chain<L, E, A> {
     ghost use Rattle.flume_chain.specs.Lends.{lends_value, lends_get};
 
     /// No elements.
-    ///
     /// ```
     /// let mut chain = Chain::new(alloc);
     /// chain.push_back(LabelledValue { label: 7, value: 'a' }).ok(); // Some(0)

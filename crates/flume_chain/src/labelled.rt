@@ -1,10 +1,8 @@
 //! A value of a chain with a label.
 
-/// A value with a label, which its caller chooses.
+/// A value with a label, which the chain's caller chooses; both are in the node of the chain.
 #[derive(Drop)]
 pub struct LabelledValue<L, E> {
-    /// The label, in the node, next to the links.
     pub label: L,
-    /// The value.
     pub value: E,
 }

@@ -1,6 +1,5 @@
 //! A list from which each element can be taken out in constant time, wherever it is. A *place* is a
 //! number that names an element while it is in the list, of at most 4,294,967,295 elements.
-//!
 //! ```
 //! let mut chain = Chain::new(alloc);
 //! chain.push_back(LabelledValue { label: 7, value: 'a' }).ok(); // Some(0)

@@ -9,7 +9,7 @@ use Rattle.std.proofs.lemmas.List.{append_assoc, length-take-le, take-append-dro
 use Rattle.flume_model.specs.Log.{opens}
 use Rattle.flume_concurrent.specs.declared.call.Answer.{Answer}
 use Rattle.flume_concurrent.specs.declared.event.Event.{Event}
-use Rattle.flume_recording.specs.EventLines.{thread_of}
+use Rattle.flume_concurrent.specs.Explanations.{thread_of}
 use Rattle.flume_recording.specs.Recordings.{IsRecordingText}
 use Rattle.flume_explain.specs.Search.{BreaksAfter}
 use Rattle.flume_check.specs.CallsText.{AreExplained, BreaksOff, IsPossible, but_text, line_text, recorded_text}

@@ -9,12 +9,11 @@ use Rattle.flume_concurrent.specs.declared.call.Answer.{Answer}
 use Rattle.flume_concurrent.specs.declared.event.Event.{Event}
 use Rattle.flume_concurrent.specs.declared.event.Event.TheVariants.{Begins, Returns}
 use Rattle.flume_concurrent.specs.declared.event.Item.{Item}
-use Rattle.flume_concurrent.specs.Explanations.{events_in, IsExplained}
+use Rattle.flume_concurrent.specs.Explanations.{events_in, thread_of, IsExplained}
 use Rattle.flume_concurrent.specs.Descriptions.{DescribeExplanation}
 use Rattle.flume_recording.specs.declared.fault.Fault.{Fault}
 use Rattle.flume_recording.specs.declared.fault.Fault.TheVariants.{NoOpening, NoEvent, NoCall}
 use Rattle.flume_recording.specs.declared.fault.Fault.TheVariants.{NoAnswer}
-use Rattle.flume_recording.specs.EventLines.{thread_of}
 use Rattle.flume_recording.specs.Recordings.{IsRecordingText, IsFirstWrongEvent}
 use Rattle.flume_recording.specs.Texts.{answer_text, call_text}
 use Rattle.flume_check.specs.ItemLines.{item_lines}

@@ -1,5 +1,5 @@
 //! The answers that are tried for a call.
-use crate::numbers::{MOST, calls_in, capacities_in, capacity_of, message_of, messages_in};
+use crate::numbers::{MOST, calls_in, capacities_in, capacity_of, messages_in};
 use flume_concurrent::call::{Answer, Call};
 use flume_concurrent::event::Event;
 use flume_core::error::NoMemory;
@@ -37,9 +37,8 @@ const WORDS: [Word; 12] = [
     Word::Unbounded,
 ];
 
-// The answers to try for this call, in the order of their texts, without `nomemory`, `dropped` and
-// drained lists: the messages that calls send, the numbers up to how many calls begin, and the
-// capacities of the opening and of calls; of each kind `MOST` at most.
+// The answers to try for this call, in the order of their texts; with a number `MOST` at most: the
+// recording's messages or capacities, or counts up to its calls. No `nomemory`, `dropped` or list.
 pub(crate) fn candidates<A: Allocator + Copy>(
     alloc: A,
     capacity: Option<usize>,
@@ -114,10 +113,10 @@ fn push_words<A: Allocator>(
 
 fn may_answer(word: Word, call: &Call<u64>) -> bool {
     match word {
-        Word::Sent => message_of(call).is_some(),
+        Word::Sent => call.message().is_some(),
         Word::Full => matches!(call, Call::TrySend(_)),
         Word::Empty => matches!(call, Call::TryRecv),
-        Word::Disconnected => message_of(call).is_some() || receives(call),
+        Word::Disconnected => call.message().is_some() || receives(call),
         Word::Timeout => matches!(call, Call::SendTimeout(_) | Call::RecvTimeout),
         Word::Done => capacity_of(call).is_some() || clones(call) || drops(call),
         Word::NoEnd => clones(call) || drops(call),

@@ -1,14 +1,13 @@
 //! The lines of the items that explain a recording.
 ghost use Rattle.std.specs.Prelude.{IfOk, OnOk, ◌≡◌, ◌∷◌, ◌++◌, string_bytes};
 ghost use Rattle.flume_recording.specs.Recordings.{names_of};
-ghost use Rattle.flume_check.specs.ItemLines.{item_line, item_lines, step_number, step_text};
-ghost use Rattle.flume_check.specs.ItemLines.{step_word};
-ghost use Rattle.flume_model.specs.declared.step.Step.TheVariants.{Recv};
+ghost use Rattle.flume_check.specs.ItemLines.{item_line, item_lines, step_text};
 
 use flume_concurrent::event::Item;
 use flume_core::error::NoMemory;
-use flume_model::step::{Kind, Step};
+use flume_model::step::Step;
 use flume_recording::writing::write_event;
+use flume_script::words::parts_of;
 use flume_script::writing::write_reply;
 use std::alloc::Allocator;
 
@@ -67,61 +66,10 @@ fn write_step<A: Allocator>(text: &mut String<A>, step: &Step<u64>) -> Result<()
     ensures value { OnOk result
         (string_bytes text.new ≡ string_bytes text.old ++ step_text step.now) }
 {
-    let word = word_of(step);
-    match number_in(step) {
+    let (word, number) = parts_of(step);
+    match number {
         None => text.push_str(word)?,
         Some(number) => write!(text, "{word} {number}")?,
     }
     Ok(())
-}
-
-fn word_of(step: &Step<u64>) -> &'static str
-    ensures value { result.now ≡ step_word step.now }
-{
-    match step {
-        Step::TrySend(_) => "try_send",
-        Step::Send(_) => "send",
-        Step::PollSend(_) => "poll_send",
-        Step::WithdrawSend(_) => "withdraw_send",
-        Step::TryRecv => "try_recv",
-        Step::Recv(kind) => words_of(*kind),
-        Step::Poll(_) => "poll",
-        Step::Withdraw(_) => "withdraw",
-        Step::Drain => "drain",
-        Step::CloneSender => "clone_sender",
-        Step::CloneReceiver => "clone_receiver",
-        Step::DropSender => "drop_sender",
-        Step::DropReceiver => "drop_receiver",
-        Step::SetCapacity(_) => "set_capacity",
-        Step::Len => "len",
-        Step::IsEmpty => "is_empty",
-        Step::IsFull => "is_full",
-        Step::Capacity => "capacity",
-        Step::SenderCount => "sender_count",
-        Step::ReceiverCount => "receiver_count",
-        Step::IsDisconnected => "is_disconnected",
-    }
-}
-
-fn words_of(kind: Kind) -> &'static str
-    ensures value { result.now ≡ step_word (Recv kind) }
-{
-    match kind {
-        Kind::Block => "recv block",
-        Kind::Plain => "recv plain",
-        Kind::Stream => "recv stream",
-        Kind::Arm => "recv arm",
-    }
-}
-
-fn number_in(step: &Step<u64>) -> Option<u64>
-    ensures value { result ≡ step_number step.now }
-{
-    match step {
-        Step::TrySend(message) | Step::Send(message) => Some(*message),
-        Step::PollSend(ticket) | Step::WithdrawSend(ticket) => Some(*ticket),
-        Step::Poll(ticket) | Step::Withdraw(ticket) => Some(*ticket),
-        Step::SetCapacity(capacity) => Some(*capacity as u64),
-        _ => None,
-    }
 }

@@ -14,7 +14,7 @@ pub(crate) fn messages_in<A: Allocator + Copy>(
     let mut messages = Vec::new(alloc);
     for event in events {
         if let Event::Begins { call, .. } = event {
-            add_new(&mut messages, message_of(call))?;
+            add_new(&mut messages, call.message())?;
         }
     }
     Ok(messages)
@@ -45,16 +45,6 @@ pub(crate) fn calls_in<A: Allocator>(events: &[Event<u64, A>]) -> usize {
         }
     }
     calls
-}
-
-pub(crate) fn message_of(call: &Call<u64>) -> Option<u64> {
-    match call {
-        Call::Send(message)
-        | Call::SendTimeout(message)
-        | Call::SendAsync(message)
-        | Call::TrySend(message) => Some(*message),
-        _ => None,
-    }
 }
 
 pub(crate) fn capacity_of(call: &Call<u64>) -> Option<u64> {

@@ -3,7 +3,7 @@ ghost use Rattle.std.specs.Prelude.{IfOk, ◌≡◌, ◌==◌, ◌+◌, ◌<◌,
 ghost use Rattle.std.specs.Prelude.{length, take};
 ghost use Rattle.std.specs.List.{All};
 ghost use Rattle.std.specs.Str.Lines.{lines};
-ghost use Rattle.flume_recording.specs.EventLines.{thread_of};
+ghost use Rattle.flume_concurrent.specs.Explanations.{thread_of};
 ghost use Rattle.flume_recording.specs.Recordings.{IsFirstWrongEvent, IsRecordingText, names_of};
 ghost use Rattle.flume_concurrent.specs.declared.event.Event.{Event};
 ghost use Rattle.flume_explain.specs.Search.{BreaksAfter};
@@ -26,13 +26,7 @@ use std::alloc::Allocator;
 
 const LIMIT: usize = 10_000_000;
 
-/// What is printed of a recording, and the status. `NoMemory`: an allocation failed.
-///
-/// - 2: a line is wrong; the text names the first wrong one and says why.
-/// - 0: the events are explained; the text is `correct`, or, if `shows`, the lines and the steps.
-/// - 1: they aren't; the text names the first wrong line, its text, and answers that are possible
-///   there, or the first line that can be wrong.
-/// - 6: the limit was reached; the text names a line before which the events are explained.
+/// What is printed of a recording, and the status (`JudgesCalls`), if no allocation fails.
 pub(crate) fn judge_recording<A: Allocator + Copy>(
     alloc: A,
     shows: bool,

@@ -63,7 +63,8 @@ module _ {T A : Type 0} where
   open_begun (Makes u step r ∷ items) t h =
       begun_more (Makes u step r) items t (open_begun items t (by_thread (eqb u t) (open_call items t) h))
     where
-      by_thread : (b : Bool) (current : Option (Call T × Stage T A)) → IsThere (if b then after_reply r current else current) → IsThere current
+      by_thread : (b : Bool) (current : Option (Call T × Stage T A)) → IsThere (if b then after_reply r current else current)
+          → IsThere current
       by_thread true None h = h
       by_thread true (Some current) h = tt
       by_thread false current h = h

@@ -104,7 +104,8 @@ module _ {T A : Type 0} where
   StandsIn n k log (Some current) = Stands n k log current.1
 
   -- an answer stays so by one more step
-  told_on : (n : ℕ) (o : Opening) (past : Log T A) (p : Step T × Reply T A) → IsRun o (p ∷ past) → (own : Answer T A) → AnswerSince n past own
+  told_on : (n : ℕ) (o : Opening) (past : Log T A) (p : Step T × Reply T A) → IsRun o (p ∷ past) → (own : Answer T A)
+      → AnswerSince n past own
       → AnswerSince n (p ∷ past) own
   told_on n o past p run (answer.Got own) h = handed_on n o past p own run h
   told_on n o past p run _ h = tt

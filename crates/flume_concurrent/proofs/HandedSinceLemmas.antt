@@ -5,7 +5,7 @@ use Rattle.flume_model.proofs.Common.{refl, sym, ap, ◌∙◌, arith, ◌⊎◌
 use Rattle.flume_model.proofs.Common.{or_cases, or_from, slice_get, slice_get_within, Log, Opening, Offer, Shown, FilledIn, channel}
 use Rattle.flume_model.proofs.Common.{Change, Queues, Takes, Collects, Leaves, change, is_ticket, filled_by, was_filled, fill, hands_out}
 use Rattle.flume_model.proofs.Common.{handed_out}
-use Rattle.flume_model.proofs.Common.{hand_outs, kept, next_ticket, is_over, entry_of, entries, held_by, FillIs, shows_to, shown, or_else}
+use Rattle.flume_model.proofs.Common.{hand_outs, kept, next_ticket, is_over, entry_of, entries, held_by, FillIs, shows_to, shown, option_or}
 use Rattle.flume_model.proofs.Common.{IsReply, IsRun}
 use Rattle.flume_model.specs.declared.step.Step.{Step}
 use Rattle.flume_model.specs.declared.step.Step.TheVariants.{TryRecv, Recv, Poll, Withdraw}
@@ -111,7 +111,8 @@ module _ {T A : Type 0} where
   pub since_more : (n k : ℕ) (o : Opening) (past : Log T A) (p : Step T × Reply T A) → IsRun o (p ∷ past) → Since n k o past
       → Since n k o (p ∷ past)
   since_more n k o past p run h = record {
-    more_handed = (let long = length-append (handed_out past) (hands_out (change past p.0 p.1)) in let before = h.more_handed in omega arith);
+    more_handed = (let long = length-append (handed_out past) (hands_out (change past p.0 p.1)) in let before = h.more_handed in
+        omega arith);
     more_issued = (let before = h.more_issued in omega arith);
     filled_at = λ t le was. by_step t le (or_cases (is_ticket t (filled_by p.1)) (was_filled past t) was);
   }
@@ -187,7 +188,7 @@ module _ {T A : Type 0} where
         handed = slice_get_within (handed_out log) filled.0 (FilledIn u) at;
         is_kept = kept_at.1;
         same = shown_is (is_over log) (shown log u) (held_by (entry_of u (entries o log))) m kept_at.0.message
-            (ap (λ first. or_else first (shown past u)) shows) kept_at.2;
+            (ap (λ first. option_or first (shown past u)) shows) kept_at.2;
       }
 
   -- a message that a parked receiver gets was handed out, by the step or when it was filled

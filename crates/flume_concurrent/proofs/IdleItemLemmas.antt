@@ -1,6 +1,7 @@
 -- Items with the newest first: which step may be before which item, and why a call that asked goes
 -- on asking.
-use Rattle.std.proofs.Common.{◌≡◌, ℕ, Bool, true, false, List, [], ◌∷◌, ◌++◌, Option, Some, None, inl, inr, refl, sym, ap, ◌∙◌, subst, append_assoc, reverse}
+use Rattle.std.proofs.Common.{◌≡◌, ℕ, Bool, true, false, List, [], ◌∷◌, ◌++◌, Option, Some, None, inl, inr}
+use Rattle.std.proofs.Common.{refl, sym, ap, ◌∙◌, subst, append_assoc, reverse}
 use Rattle.std.proofs.lemmas.List.{reverse-append}
 use Rattle.flume_model.specs.declared.step.Step.{Step}
 use Rattle.flume_model.specs.declared.step.Reply.{Reply}
@@ -140,7 +141,8 @@ module _ {T A : Type 0} where
   at_stage equal call Tried step recorded a (inl is) r = not_that step (next_step {A = A} call Tried) a (parking_asks_not call) is
   at_stage equal call Tried step recorded a (inr is) r = not_that step (alternative_step {A = A} call Tried) a (other_tried A call) is
   at_stage equal call (Answered own) step recorded a (inl is) r = let none : ⊥ = cc in none
-  at_stage equal call (Answered own) step recorded a (inr is) r = not_that step (alternative_step call (Answered own)) a (other_answered call own) is
+  at_stage equal call (Answered own) step recorded a (inr is) r = not_that step (alternative_step call (Answered own)) a
+      (other_answered call own) is
   at_stage equal call (Parked t) step recorded a m r = let none : ⊥ = cc in none
   at_stage equal call (Refused t) step recorded a m r = let none : ⊥ = cc in none
 

@@ -1,7 +1,10 @@
 -- A step that is answered `Waiting`, by which no receiver waits that didn't before, changes nothing.
-use Rattle.flume_model.proofs.Common.{◌≡◌, ℕ, ◌+◌, Bool, true, false, not, ◌&&◌, ◌||◌, if◌then◌else◌, eqb, List, [], ◌∷◌, ◌++◌, Option, Some, None}
-use Rattle.flume_model.proofs.Common.{refl, sym, ap, ◌∙◌, subst, arith, common_steps, cond-false, append-nil, Log, Opening, channel, Channel}
-use Rattle.flume_model.proofs.Common.{senders, receivers, is_over, boundary, is_live, entries, entry_of, again, without_ticket, waiting_count}
+use Rattle.flume_model.proofs.Common.{◌≡◌, ℕ, ◌+◌, Bool, true, false, not, ◌&&◌, ◌||◌, if◌then◌else◌, eqb}
+use Rattle.flume_model.proofs.Common.{List, [], ◌∷◌, ◌++◌, Option, Some, None}
+use Rattle.flume_model.proofs.Common.{refl, sym, ap, ◌∙◌, subst, arith, common_steps, cond-false, append-nil}
+use Rattle.flume_model.proofs.Common.{Log, Opening, channel, Channel}
+use Rattle.flume_model.proofs.Common.{senders, receivers, is_over, boundary, is_live, entries, entry_of}
+use Rattle.flume_model.proofs.Common.{again, without_ticket, waiting_count}
 use Rattle.flume_model.proofs.Common.{is_woken, IsOpen, LogEntry, IsPolled, IsGone, IsGoneMark, IsReply, is_waiting, offers, handed_out}
 use Rattle.flume_model.specs.declared.step.Kind.{Kind}
 use Rattle.flume_model.specs.declared.step.Kind.TheVariants.{Block}

@@ -1,5 +1,6 @@
 -- Each idle step of an explanation whose steps come late may be taken out.
-use Rattle.std.proofs.Common.{◌≡◌, ◌≢◌, ℕ, ◌==◌, Bool, true, false, List, [], ◌∷◌, Option, Some, None, ◌⊎◌, inl, inr, refl, sym, ap, ◌∙◌, subst, reverse, if◌then◌else◌}
+use Rattle.std.proofs.Common.{◌≡◌, ◌≢◌, ℕ, ◌==◌, Bool, true, false, List, [], ◌∷◌, Option, Some, None, ◌⊎◌}
+use Rattle.std.proofs.Common.{inl, inr, refl, sym, ap, ◌∙◌, subst, reverse, if◌then◌else◌}
 use Rattle.std.proofs.lemmas.Bool.Decides.{eqb_tells}
 use Rattle.std.proofs.lemmas.List.{reverse-reverse, append-nil}
 use Rattle.std.specs.Bool.{IsTrue}
@@ -18,7 +19,8 @@ use Rattle.flume_concurrent.specs.declared.event.Item.{Item}
 use Rattle.flume_concurrent.specs.declared.event.Item.TheVariants.{Happens, Makes}
 use Rattle.flume_concurrent.specs.declared.stage.Stage.{Stage}
 use Rattle.flume_concurrent.specs.declared.stage.Stage.TheVariants.{Begun}
-use Rattle.flume_concurrent.specs.Explanations.{events_in, steps_in, after_reply, open_call, IsNextStep, returns, Fits, AreCalls, IsExplanation}
+use Rattle.flume_concurrent.specs.Explanations.{events_in, steps_in, after_reply, open_call, IsNextStep}
+use Rattle.flume_concurrent.specs.Explanations.{returns, Fits, AreCalls, IsExplanation}
 use Rattle.flume_concurrent.specs.LateSteps.{AreLate, IsExplainedLate}
 use Rattle.flume_concurrent.specs.NoIdleSteps.{IsIdle, NoneIsIdle, IsExplainedWithoutIdle}
 use Rattle.flume_concurrent.proofs.SameCallsLemmas.{Alike, alike_self, alike_through, alike_step, channel_is}
@@ -75,7 +77,7 @@ module _ {T A : Type 0} where
   same_open (Happens (Returns t recorded)) past other same u = λ i. if t == u then None else same u i
   same_open (Makes t step reply) past other same u = λ i. if t == u then after_reply reply (same u i) else same u i
 
--- where `equal` compares messages
+-- if `equal` compares messages
 module _ {T A : Type 0} (equal : T → T → Bool) where
   -- by the same open calls the same item fits
   same_fits : (item : Item T A) (past other : List (Item T A)) → ((u : ℕ) → open_call past u ≡ open_call other u)

@@ -1,5 +1,6 @@
 -- The steps of an explanation may come late: each waits for an event of its thread.
-use Rattle.std.proofs.Common.{◌≡◌, ℕ, ◌==◌, Bool, true, false, List, [], ◌∷◌, ◌++◌, Option, Some, None, refl, sym, ap, ◌∙◌, subst, append_assoc, reverse, eq-eqb, if◌then◌else◌}
+use Rattle.std.proofs.Common.{◌≡◌, ℕ, ◌==◌, Bool, true, false, List, [], ◌∷◌, ◌++◌, Option, Some, None, refl}
+use Rattle.std.proofs.Common.{sym, ap, ◌∙◌, subst, append_assoc, reverse, eq-eqb, if◌then◌else◌}
 use Rattle.std.proofs.lemmas.Bool.{eqb-true}
 use Rattle.std.proofs.lemmas.List.{reverse-append, reverse-reverse, append-nil}
 use Rattle.std.specs.Bool.{IsTrue}
@@ -16,9 +17,10 @@ use Rattle.flume_concurrent.specs.declared.stage.Stage.{Stage}
 use Rattle.flume_concurrent.specs.declared.stage.Stage.TheVariants.{Begun}
 use Rattle.flume_concurrent.specs.Explanations.{steps_in, after_reply, open_call, IsNextStep, returns, Fits, AreCalls, IsExplained}
 use Rattle.flume_concurrent.specs.LateSteps.{IsFollowed, AreLate, IsExplainedLate}
-use Rattle.flume_concurrent.proofs.LateItemLemmas.{of_item, pick, own, steps_reverse, late_items, same_events, same_steps, same_own, IsWaited, AreWaited, waited}
+use Rattle.flume_concurrent.proofs.LateItemLemmas.{of_item, pick, own, steps_reverse, late_items, same_events}
+use Rattle.flume_concurrent.proofs.LateItemLemmas.{same_steps, same_own, IsWaited, AreWaited, waited}
 
--- where `equal` compares messages
+-- if `equal` compares messages
 module _ {T A : Type 0} (equal : T → T → Bool) where
   -- what a thread may do next, by its state
   abbrev Fit : Option (Call T × Stage T A) → Item T A → Type 0

@@ -222,7 +222,8 @@ module _ {T A : Type 0} where
   AreWaited (Makes t step reply ∷ items) = IsWaited t items × AreWaited items
 
   -- so it is with what `late` makes
-  waited_at : (b : Bool) (m : ℕ × Step T × Reply T A) (t : ℕ) (p : Waiting T A) → has t (m ∷ p) ≡ b → (event : Event T A) → t ≡ of_event event
+  waited_at : (b : Bool) (m : ℕ × Step T × Reply T A) (t : ℕ) (p : Waiting T A) → has t (m ∷ p) ≡ b → (event : Event T A)
+      → t ≡ of_event event
       → (items : List (Item T A)) → AreWaited (put (front t p) ++ Happens event ∷ items) → AreWaited items
       → AreWaited (put (choose b (m ∷ front t p) []) ++ Happens event ∷ items)
   waited_at true m t [] is event same items later behind =

@@ -30,7 +30,7 @@ module _ {T : Type 0} (A : Type 0) where
   not_dropped (call.SendAsync m) recorded e = let none : ⊥ = cc in none
   not_dropped _ recorded e = let none : ⊥ = cc in none
 
--- where `equal` compares messages
+-- if `equal` compares messages
 module _ {T A : Type 0} (equal : T → T → Bool) where
   -- what was handed out and filled after the past came after it
   since : (o : Opening) (newer past : List (Item T A)) → IsRun o (steps_in (newer ++ past))

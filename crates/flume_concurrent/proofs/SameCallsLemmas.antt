@@ -1,8 +1,10 @@
 -- Two logs after which a channel is the same, whatever comes next.
 use Rattle.flume_model.proofs.Common.{◌≡◌, ◌+◌, Bool, not, ◌&&◌, ◌||◌, if◌then◌else◌, eqb, List, [], ◌∷◌, ◌++◌, refl}
 use Rattle.flume_model.proofs.Common.{◌∙◌, drop, take, length, filter, Log, Opening, Offer, HandOut, channel}
-use Rattle.flume_model.proofs.Common.{senders, receivers, senders_after, receivers_after, is_over, offers, offers_made, withdrawn, withdraws}
-use Rattle.flume_model.proofs.Common.{hands_out, handed_out, was_filled, is_ticket, filled_by, capacity, capacity_after, boundary, boundary_after}
+use Rattle.flume_model.proofs.Common.{senders, receivers, senders_after, receivers_after, is_over, offers}
+use Rattle.flume_model.proofs.Common.{offers_made, withdrawn, withdraws}
+use Rattle.flume_model.proofs.Common.{hands_out, handed_out, was_filled, is_ticket, filled_by, capacity}
+use Rattle.flume_model.proofs.Common.{capacity_after, boundary, boundary_after}
 use Rattle.flume_model.proofs.Common.{line, messages, next_ticket, tickets_issued, issues, spends, is_live, is_closed, entries}
 use Rattle.flume_model.proofs.Common.{entries_after, change, Takes, Collects, Some}
 use Rattle.flume_model.specs.declared.step.Step.{Step}

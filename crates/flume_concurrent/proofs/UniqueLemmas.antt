@@ -1,8 +1,11 @@
 -- Items tell of one explanation, but for where drained lists are kept.
-use Rattle.std.proofs.Common.{◌≡◌, ℕ, ◌<◌, ◌==◌, Bool, true, List, [], ◌∷◌, Option, Some, None, inl, inr, refl, sym, ap, ◌∙◌, subst, length, take, drop, reverse, ◌++◌, take-append-drop, if◌then◌else◌}
+use Rattle.std.proofs.Common.{◌≡◌, ℕ, ◌<◌, ◌==◌, Bool, true, List, [], ◌∷◌, Option, Some, None, inl, inr}
+use Rattle.std.proofs.Common.{refl, sym, ap, ◌∙◌, subst, length, take, drop, reverse, ◌++◌, take-append-drop}
+use Rattle.std.proofs.Common.{if◌then◌else◌}
 use Rattle.std.proofs.Math.ListN.{get_or}
 use Rattle.std.proofs.lemmas.List.{reverse-append, reverse-reverse}
 use Rattle.std.specs.Bool.{IsTrue}
+use Rattle.std.specs.List.{AllZip}
 use Rattle.flume_model.specs.declared.step.Kind.TheVariants.{Plain}
 use Rattle.flume_model.specs.declared.step.Step.{Step}
 use Rattle.flume_model.specs.declared.step.Step.TheVariants as step
@@ -27,8 +30,9 @@ use Rattle.flume_concurrent.specs.declared.event.Item.TheVariants.{Happens, Make
 use Rattle.flume_concurrent.specs.declared.stage.Stage.{Stage}
 use Rattle.flume_concurrent.specs.declared.stage.Stage.TheVariants.{Begun, Tried, Parked, Answered}
 use Rattle.flume_concurrent.specs.Calls.{next_step, alternative_step, stage_after}
-use Rattle.flume_concurrent.specs.Explanations.{steps_in, events_in, after_reply, open_call, IsNextStep, returns, Fits, IsExplanation, IsExplained}
-use Rattle.flume_concurrent.specs.Descriptions.{Describes, DescribeEach, DescribeExplanation, BreaksAt}
+use Rattle.flume_concurrent.specs.Explanations.{steps_in, events_in, after_reply, open_call, IsNextStep}
+use Rattle.flume_concurrent.specs.Explanations.{returns, Fits, IsExplanation, IsExplained}
+use Rattle.flume_concurrent.specs.Descriptions.{Describes, DescribeExplanation, BreaksAt}
 use Rattle.flume_concurrent.specs.Following.{NeverComesNext}
 
 module _ {T : Type 0} (equal : T → T → Bool) where
@@ -38,11 +42,13 @@ module _ {T : Type 0} (equal : T → T → Bool) where
   equals recorded (Some own) = equal_steps equal recorded own ≡ true
 
   -- no step equals both steps that a call may make
-  sends_apart : (recorded : Step T) (m : T) → equal_steps equal recorded (step.Send m) ≡ true → equal_steps equal recorded (step.TrySend m) ≡ true → ⊥
+  sends_apart : (recorded : Step T) (m : T) → equal_steps equal recorded (step.Send m) ≡ true
+      → equal_steps equal recorded (step.TrySend m) ≡ true → ⊥
   sends_apart (step.Send x) m h k = let none : ⊥ = cc in none
   sends_apart _ m h k = let none : ⊥ = cc in none
 
-  receives_apart : (recorded : Step T) → equal_steps equal recorded (step.Recv Plain) ≡ true → equal_steps equal recorded step.TryRecv ≡ true → ⊥
+  receives_apart : (recorded : Step T) → equal_steps equal recorded (step.Recv Plain) ≡ true
+      → equal_steps equal recorded step.TryRecv ≡ true → ⊥
   receives_apart (step.Recv kind) h k = let none : ⊥ = cc in none
   receives_apart _ h k = let none : ⊥ = cc in none
 
@@ -57,7 +63,8 @@ module _ {T : Type 0} (equal : T → T → Bool) where
   parked_receives_apart _ t h k = let none : ⊥ = cc in none
 
 module _ {T A : Type 0} (equal : T → T → Bool) where
-  apart : (c : Call T) (stage : Stage T A) (recorded : Step T) → equals equal recorded (next_step c stage) → equals equal recorded (alternative_step c stage) → ⊥
+  apart : (c : Call T) (stage : Stage T A) (recorded : Step T) → equals equal recorded (next_step c stage)
+      → equals equal recorded (alternative_step c stage) → ⊥
   apart (call.SendAsync m) Begun recorded h k = sends_apart equal recorded m h k
   apart call.RecvAsync Begun recorded h k = receives_apart equal recorded h k
   apart call.RecvAsync Tried recorded h k = receives_apart equal recorded h k
@@ -95,7 +102,8 @@ module _ {T A : Type 0} (equal : T → T → Bool) where
   stage_same c stage (Drained list) (Drained more) h = ap (λ l. Answered (answer.Drained l)) h
   stage_same c stage reply other h = ap (stage_after c stage) h
 
-  further_same : (current : Option (Call T × Stage T A)) (reply other : Reply T A) → SameReply reply other → after_reply reply current ≡ after_reply other current
+  further_same : (current : Option (Call T × Stage T A)) (reply other : Reply T A) → SameReply reply other
+      → after_reply reply current ≡ after_reply other current
   further_same None reply other h = refl
   further_same (Some current) reply other h = ap (λ stage. Some (current.0, stage)) (stage_same current.0 current.1 reply other h)
 
@@ -116,10 +124,12 @@ module _ {T A : Type 0} (equal : T → T → Bool) where
   fits_same : (item : Item T A) (past other : List (Item T A)) → ((t : ℕ) → open_call past t ≡ open_call other t)
       → Fits equal other item → Fits equal past item
   fits_same (Happens (Begins u c)) past other same fits = same u ∙ fits
-  fits_same (Happens (Returns u recorded)) past other same fits = subst (λ current. IsTrue (returns equal current recorded)) (sym (same u)) fits
+  fits_same (Happens (Returns u recorded)) past other same fits = subst (λ current. IsTrue (returns equal current recorded))
+      (sym (same u)) fits
   fits_same (Makes u s reply) past other same fits = subst (λ current. IsNextStep current s) (sym (same u)) fits
 
-  same : (o : Opening) (recorded past other : List (Item T A)) → DescribeEach equal recorded past → DescribeEach equal recorded other
+  same : (o : Opening) (recorded past other : List (Item T A)) → AllZip (Describes equal) recorded past
+      → AllZip (Describes equal) recorded other
       → IsExplanation equal o past → IsExplanation equal o other → AreSame past other
   same o [] [] [] h k x y = (λ t. refl, tt)
   same o [] [] (q ∷ other) h k x y = absurd k
@@ -165,8 +175,9 @@ module _ {T A : Type 0} (equal : T → T → Bool) where
     run,
   )
 
-  no_more : (o : Opening) (recorded : List (Item T A)) (item : Item T A) (past : List (Item T A)) → DescribeEach equal recorded past
-      → IsExplanation equal o past → NeverComesNext equal o past item → (other : List (Item T A)) → DescribeEach equal (item ∷ recorded) other
+  no_more : (o : Opening) (recorded : List (Item T A)) (item : Item T A) (past : List (Item T A)) → AllZip (Describes equal) recorded past
+      → IsExplanation equal o past → NeverComesNext equal o past item → (other : List (Item T A))
+      → AllZip (Describes equal) (item ∷ recorded) other
       → IsExplanation equal o other → ⊥
   no_more o recorded item past h x none [] k y = k
   no_more o recorded item past h x none (q ∷ other) k y =
@@ -174,26 +185,30 @@ module _ {T A : Type 0} (equal : T → T → Bool) where
       none q k.0 (fits_same q past other alike.0 y.calls.0) (run_same o q past other x.run alike y.run)
 
   pub breaks_at : (o : Opening) (items : List (Item T A)) (place : ℕ) (item : Item T A) → place < length items
-      → item ≡ get_or items place item → (past : List (Item T A)) → DescribeEach equal (reverse (take place items)) past
+      → item ≡ get_or items place item → (past : List (Item T A)) → AllZip (Describes equal) (reverse (take place items)) past
       → IsExplanation equal o past → NeverComesNext equal o past item → BreaksAt equal o items place
   breaks_at o items place item within at past recorded whole none = record {
     is_within = within;
     before = (past, recorded, whole);
     not_on = λ on. no_more o (reverse (take place items)) item past recorded whole none on.0
-        (subst (λ l. DescribeEach equal l on.0) (with_next items place item within at) on.1) on.2;
+        (subst (λ l. AllZip (Describes equal) l on.0) (with_next items place item within at) on.1) on.2;
   }
 
   -- a beginning of what tells of an explanation tells of one
-  behind : (o : Opening) (later recorded past : List (Item T A)) → DescribeEach equal (later ++ recorded) past → IsExplanation equal o past
-      → (before : List (Item T A)) × DescribeEach equal recorded before × IsExplanation equal o before
+  behind : (o : Opening) (later recorded past : List (Item T A)) → AllZip (Describes equal) (later ++ recorded) past
+      → IsExplanation equal o past
+      → (before : List (Item T A)) × AllZip (Describes equal) recorded before × IsExplanation equal o before
   behind o [] recorded past h x = (past, h, x)
   behind o (i ∷ later) recorded [] h x = absurd h
-  behind o (i ∷ later) recorded (p ∷ past) h x = behind o later recorded past h.1 (record { calls = x.calls.1; run = run_before o p past x.run })
+  behind o (i ∷ later) recorded (p ∷ past) h x =
+      behind o later recorded past h.1 (record { calls = x.calls.1; run = run_before o p past x.run })
 
-  pub beginning : (o : Opening) (n : ℕ) (items : List (Item T A)) → DescribeExplanation equal o items → DescribeExplanation equal o (take n items)
+  pub beginning : (o : Opening) (n : ℕ) (items : List (Item T A)) → DescribeExplanation equal o items
+      → DescribeExplanation equal o (take n items)
   beginning o n items h =
       behind o (reverse (drop n items)) (reverse (take n items)) h.0
-      (subst (λ l. DescribeEach equal l h.0) (ap reverse (sym (take-append-drop n items)) ∙ reverse-append (take n items) (drop n items)) h.1) h.2
+      (subst (λ l. AllZip (Describes equal) l h.0) (ap reverse (sym (take-append-drop n items))
+      ∙ reverse-append (take n items) (drop n items)) h.1) h.2
 
   -- the events are the recorded ones
   pub events_append : (xs ys : List (Item T A)) → events_in (xs ++ ys) ≡ events_in xs ++ events_in ys
@@ -214,11 +229,12 @@ module _ {T A : Type 0} (equal : T → T → Bool) where
       ∙ sym (reverse-append (events_in (item ∷ [])) (events_in items))
       ∙ ap reverse (sym (events_append (item ∷ []) items))
 
-  told_events : (recorded past : List (Item T A)) → DescribeEach equal recorded past → events_in recorded ≡ events_in past
+  told_events : (recorded past : List (Item T A)) → AllZip (Describes equal) recorded past → events_in recorded ≡ events_in past
   told_events [] [] h = refl
   told_events [] (p ∷ past) h = absurd h
   told_events (i ∷ recorded) [] h = absurd h
-  told_events (Happens e ∷ recorded) (Happens f ∷ past) h = ap (λ l. e ∷ l) (told_events recorded past h.1) ∙ ap (λ x. x ∷ events_in past) h.0
+  told_events (Happens e ∷ recorded) (Happens f ∷ past) h = ap (λ l. e ∷ l) (told_events recorded past h.1)
+      ∙ ap (λ x. x ∷ events_in past) h.0
   told_events (Happens e ∷ recorded) (Makes t s r ∷ past) h = absurd h.0
   told_events (Makes t s r ∷ recorded) (Happens f ∷ past) h = absurd h.0
   told_events (Makes t s r ∷ recorded) (Makes u s' r' ∷ past) h = told_events recorded past h.1

@@ -41,8 +41,7 @@ module _ {T A : Type 0} where
   is_dropped RecvAsync Dropped = true
   is_dropped _ _ = false
 
-  -- whether a call at this stage may return this: the answer of its last step, `NoMemory` instead
-  -- of parking, or `Dropped` if it is a future that isn't parked
+  -- whether a call at this stage may return this
   abbrev pub may_return : (T → T → Bool) → Call T → Stage T A → Answer T A → Bool
   may_return equal call Begun recorded = is_dropped call recorded
   may_return equal call Tried recorded =

@@ -13,6 +13,14 @@ use Rattle.flume_concurrent.specs.declared.stage.Stage.TheVariants.{Begun, Tried
 use Rattle.flume_concurrent.specs.declared.stage.Stage.TheVariants.{Answered}
 
 module _ {T : Type 0} where
+  -- the message that a call sends
+  abbrev pub message_of : Call T → Option T
+  message_of (call.Send m) = Some m
+  message_of (call.SendTimeout m) = Some m
+  message_of (call.SendAsync m) = Some m
+  message_of (call.TrySend m) = Some m
+  message_of _ = None
+
   -- the first step of a call, and its only one if it doesn't wait
   abbrev pub first_step : Call T → Step T
   first_step (call.Send m) = step.TrySend m

@@ -1,5 +1,6 @@
 -- Items that describe an explanation.
-use Rattle.std.specs.Prelude.{◌≡◌, ◌<◌, ◌+◌, ℕ, Bool, IsTrue, List, [], ◌∷◌, length, reverse, take}
+use Rattle.std.specs.Prelude.{◌≡◌, ◌<◌, ◌+◌, ℕ, Bool, IsTrue, List, length, reverse, take}
+use Rattle.std.specs.List.{AllZip}
 use Rattle.flume_model.specs.Log.{Opening}
 use Rattle.flume_model.specs.EqualSteps.{equal_steps}
 use Rattle.flume_history.specs.Equal.{Equals}
@@ -7,7 +8,6 @@ use Rattle.flume_concurrent.specs.declared.event.Item.{Item}
 use Rattle.flume_concurrent.specs.declared.event.Item.TheVariants.{Happens, Makes}
 use Rattle.flume_concurrent.specs.Explanations.{IsExplanation}
 
--- `equal` compares messages
 module _ {T A : Type 0} (equal : T → T → Bool) where
   -- an item describes another: the same event, or an equal step and reply of the same thread
   abbrev pub Describes : Item T A → Item T A → Type 0
@@ -16,16 +16,10 @@ module _ {T A : Type 0} (equal : T → T → Bool) where
       (t ≡ u) × IsTrue (equal_steps equal step other) × Equals equal reply own
   Describes _ _ = ⊥
 
-  -- each describes the one in its place
-  abbrev pub DescribeEach : List (Item T A) → List (Item T A) → Type 0
-  DescribeEach [] [] = Unit {0}
-  DescribeEach (item ∷ items) (own ∷ past) = Describes item own × DescribeEach items past
-  DescribeEach _ _ = ⊥
-
   -- the items, the oldest first, describe an explanation
   abbrev pub DescribeExplanation : Opening → List (Item T A) → Type 0
   DescribeExplanation opening items = (past : List (Item T A))
-      × DescribeEach (reverse items) past × IsExplanation equal opening past
+      × AllZip Describes (reverse items) past × IsExplanation equal opening past
 
   -- the first this many items describe an explanation, and with the next one they don't
   pub record BreaksAt (opening : Opening) (items : List (Item T A)) (place : ℕ) : Type 0 where

@@ -17,6 +17,11 @@ use Rattle.flume_concurrent.specs.Calls.{next_step, alternative_step, stage_afte
 use Rattle.flume_concurrent.specs.Answers.{may_return}
 
 module _ {T A : Type 0} where
+  -- the thread of an event
+  abbrev pub thread_of : Event T A → ℕ
+  thread_of (Begins thread call) = thread
+  thread_of (Returns thread answer) = thread
+
   -- the events, without the steps
   abbrev pub events_in : List (Item T A) → List (Event T A)
   events_in [] = []
@@ -50,7 +55,6 @@ module _ {T A : Type 0} where
       (next_step current.0 current.1 ≡ Some step)
       ⊎ (alternative_step current.0 current.1 ≡ Some step)
 
--- `equal` compares messages
 module _ {T A : Type 0} (equal : T → T → Bool) where
   -- whether the open call, if there is one, may return this
   abbrev pub returns : Option (Call T × Stage T A) → Answer T A → Bool

@@ -2,21 +2,17 @@
 use Rattle.std.specs.Prelude.{◌≡◌, ◌==◌, ℕ, Bool, true, false, ◌||◌, ◌&&◌, if◌then◌else◌}
 use Rattle.std.specs.Prelude.{List, [], ◌∷◌, ◌++◌}
 use Rattle.std.specs.List.{Contains}
+use Rattle.std.specs.Option.{option_map_or}
 use Rattle.flume_concurrent.specs.declared.call.Call.{Call}
-use Rattle.flume_concurrent.specs.declared.call.Call.TheVariants.{Send, SendTimeout, SendAsync}
-use Rattle.flume_concurrent.specs.declared.call.Call.TheVariants.{TrySend}
 use Rattle.flume_concurrent.specs.declared.call.Answer.TheVariants.{Got}
 use Rattle.flume_concurrent.specs.declared.event.Event.{Event}
 use Rattle.flume_concurrent.specs.declared.event.Event.TheVariants.{Begins, Returns}
+use Rattle.flume_concurrent.specs.Calls.{message_of}
 
 module _ {T : Type 0} where
   -- whether a call sends such a message
   abbrev pub sends : (T → Bool) → Call T → Bool
-  sends such (Send m) = such m
-  sends such (SendTimeout m) = such m
-  sends such (SendAsync m) = such m
-  sends such (TrySend m) = such m
-  sends such _ = false
+  sends such call = option_map_or such (message_of call) false
 
 module _ {T A : Type 0} where
   -- whether one of these events, the oldest first, begins a send of such a message
@@ -38,7 +34,6 @@ module _ {T A : Type 0} where
       (if sends such call then returns_in t events else true) && all_returned such events
   all_returned such (Returns t answer ∷ events) = all_returned such events
 
--- `equal` compares messages
 module _ {T A : Type 0} (equal : T → T → Bool) where
   -- the last event receives a message of which no send has begun
   pub record IsUnsent (events : List (Event T A)) : Type 0 where
@@ -48,8 +43,7 @@ module _ {T A : Type 0} (equal : T → T → Bool) where
     pub parts : events ≡ before ++ Returns thread (Got message) ∷ []
     pub unsent : begins_send (equal message) before ≡ false
 
-  -- each send of `first` had returned before a send of `second` began, and `second` had been
-  -- received before the call began that receives `first`, as the last event
+  -- the last event receives `first`, sent before `second`, in a call begun after `second` was got
   pub record IsOutOfOrder (events : List (Event T A)) : Type 0 where
     pub first : T
     pub second : T

@@ -32,7 +32,8 @@ pub enum Call<T> {
     IsDisconnected,
 }
 
-/// What a call returns. A message that a send hands back isn't recorded: it is the call's own.
+/// What a call returns, but for a message that it hands back, which is its own. `Dropped`: it is a
+/// future dropped before it was read. `NoEnd`: no such end is left. `Capacity(None)`: unbounded.
 #[derive(Drop)]
 #[derive_where(PartialEq, Eq; T)]
 pub enum Answer<T, A: Allocator = Global> {
@@ -43,17 +44,13 @@ pub enum Answer<T, A: Allocator = Global> {
     Disconnected,
     Timeout,
     NoMemory,
-    /// The future was dropped before its result was read.
     Dropped,
     Drained(Messages<T, A>),
     Done,
-    /// No such end is left.
     NoEnd,
-    /// No more such ends can be counted.
     CountFull,
     Number(usize),
     Truth(bool),
-    /// `None` if unbounded.
     Capacity(Option<usize>),
     Unbounded,
 }

@@ -10,11 +10,10 @@ pub enum Event<T, A: Allocator = Global> {
     Returns { thread: usize, answer: Answer<T, A> },
 }
 
-/// What is in an explanation of events.
+/// In an explanation: an event, or that the open call of a thread makes a step, with this reply.
 #[derive(Drop)]
 pub enum Item<T, A: Allocator = Global> {
     Happens(Event<T, A>),
-    /// The open call of this thread makes a step, which has this reply.
     Makes {
         thread: usize,
         step: Step<T>,

@@ -24,9 +24,8 @@ pub enum Explained {
     NoMemory,
 }
 
-/// Whether the items, the oldest first, explain their events, on a new channel of this capacity
-/// (`None`: unbounded): each step is one that the open call of its thread may make, each answer one
-/// that it may return, and each reply is lawful. Messages are compared by their `Eq`.
+/// Whether the items, the oldest first, explain their events on a new channel (`None`: unbounded):
+/// each step and answer is one that its call may have, each reply lawful, by the messages' `Eq`.
 /// ```
 /// let items = [
 ///     Item::Happens(Event::Begins { thread: 0, call: Call::TrySend(5) }),

@@ -18,8 +18,7 @@ pub fn answers_are_equal_by_case<T: PartialEq, A: Allocator>()
         → ⟦<Answer<T, A> as PartialEq>⟧.eq recorded own ≡ equal_answers T.eq recorded own }
 {}
 
-/// Explained events have an explanation in which steps come only just before a return, the last of
-/// them by the returning call. So a search need try no others.
+/// Explained events have an explanation whose steps come late, so a search need try no others.
 pub fn steps_may_come_late<T: Eq, A: Allocator>()
     ensures late { (opening : Opening) (events : List (Event T A))
         → IsExplained T.eq opening events → IsExplainedLate T.eq opening events }
@@ -43,8 +42,7 @@ pub fn only_what_was_sent_is_received<T: Eq, A: Allocator>()
         → IsExplained T.eq opening events → IsUnsent T.eq events → ⊥ }
 {}
 
-/// Events are unexplained if they end in the receipt of a message out of order: each send of it had
-/// returned before a send of another began, which had been received before the last call began.
+/// Events are unexplained if they end in the receipt of a message out of order.
 pub fn messages_are_received_in_order<T: Eq, A: Allocator>()
     ensures order { (opening : Opening) (events : List (Event T A))
         → IsExplained T.eq opening events → IsOutOfOrder T.eq events → ⊥ }

@@ -93,7 +93,6 @@ fn equal_step<T: Copy + Eq>(step: &Step<T>, own: Option<Step<T>>) -> Option<Step
     }
 }
 
-// `false`: an allocation failed.
 pub(crate) fn take_event<T: Copy + Drop, A: Allocator + Copy>(
     calls: &mut OpenCalls<T, A>,
     event: &Event<T, A>,
@@ -110,7 +109,6 @@ pub(crate) fn take_event<T: Copy + Drop, A: Allocator + Copy>(
     }
 }
 
-// `false`: an allocation failed.
 pub(crate) fn take_step<T: Copy + Drop, A: Allocator + Copy>(
     calls: &mut OpenCalls<T, A>,
     thread: usize,

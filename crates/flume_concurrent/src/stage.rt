@@ -2,26 +2,34 @@
 ghost use Rattle.std.specs.Prelude.{◌≡◌, ℕ, Option};
 ghost use Rattle.flume_concurrent.specs.Calls.{first_step, next_step, alternative_step};
 ghost use Rattle.flume_concurrent.specs.Calls.{stage_after};
-ghost use Rattle.flume_concurrent.specs.Calls.{parking_step, is_send};
+ghost use Rattle.flume_concurrent.specs.Calls.{parking_step, is_send, message_of};
 
 use crate::call::{Answer, Call, Messages};
 use flume_model::step::{Kind, Reply, Step};
 use std::alloc::{Allocator, Global};
 
-/// How far an open call is. `Parked` and `Refused` have its ticket.
+/// How far an open call is, with its ticket if it is parked. `Tried`: it found no room or no
+/// message, and may park. `Refused`: it was answered `NoMemory`, and withdraws.
 #[derive(Drop)]
 pub enum Stage<T, A: Allocator = Global> {
     Begun,
-    /// It found no room or no message, and may park.
     Tried,
     Parked(u64),
-    /// It is parked, and was answered `NoMemory`: it withdraws.
     Refused(u64),
-    /// It has made its last step, and returns this.
     Answered(Answer<T, A>),
 }
 
 impl<T: Copy> Call<T> {
+    /// The message that the call sends.
+    pub fn message(&self) -> Option<T>
+        ensures message { result ≡ message_of self.now }
+    {
+        match *self {
+            Call::Send(m) | Call::SendTimeout(m) | Call::SendAsync(m) | Call::TrySend(m) => Some(m),
+            _ => None,
+        }
+    }
+
     /// Its first step, and its only one if it doesn't wait.
     pub fn first_step(&self) -> Step<T>
         ensures step { result ≡ first_step self.now }

@@ -118,8 +118,10 @@ module _ {T A S : Type 0} where
       asks o log _ s new t f h (rw (entry_in_log h t at.0 at.1) (polled_blocked A (channel o log) at.0.kind at.0.mark at.2)) refl is
 
   -- one that looks takes the front
-  pub poll_takes : (o : Opening) (log : Log T A) (s new : State T S) (t : ℕ) (st : ReceiverStatus) (m : T) (rest : List T) → Represents o log s
-      → receiver_status t s.entries ≡ Some st → looks (Some st) ≡ true → (with_front s).queue ≡ m ∷ rest → new ≡ without_receiver t (after_take rest s)
+  pub poll_takes : (o : Opening) (log : Log T A) (s new : State T S) (t : ℕ) (st : ReceiverStatus) (m : T) (rest : List T)
+      → Represents o log s
+      → receiver_status t s.entries ≡ Some st → looks (Some st) ≡ true → (with_front s).queue ≡ m ∷ rest
+      → new ≡ without_receiver t (after_take rest s)
       → Represents o ((Poll t, Got m) ∷ log) new
   poll_takes o log s new t st m rest h represents looking front is =
       let at = one_found (entry_of t s.entries) st represents in
@@ -168,8 +170,10 @@ module _ {T A S : Type 0} where
               absurd (omega (arith, is_open, shut))
 
   -- one that blocks leaves with the front
-  pub withdraw_takes : (o : Opening) (log : Log T A) (s new : State T S) (t : ℕ) (st : ReceiverStatus) (m : T) (rest : List T) → Represents o log s
-      → receiver_status t s.entries ≡ Some st → is_unfilled_block (Some st) ≡ true → (with_front s).queue ≡ m ∷ rest → new ≡ without_receiver t (after_take rest s)
+  pub withdraw_takes : (o : Opening) (log : Log T A) (s new : State T S) (t : ℕ) (st : ReceiverStatus) (m : T) (rest : List T)
+      → Represents o log s
+      → receiver_status t s.entries ≡ Some st → is_unfilled_block (Some st) ≡ true → (with_front s).queue ≡ m ∷ rest
+      → new ≡ without_receiver t (after_take rest s)
       → Represents o ((Withdraw t, Got m) ∷ log) new
   withdraw_takes o log s new t st m rest h represents blocking front is =
       let at = one_found (entry_of t s.entries) st represents in
@@ -181,7 +185,8 @@ module _ {T A S : Type 0} where
 
   -- one that blocks leaves with no message
   pub withdraw_leaves : (o : Opening) (log : Log T A) (s new : State T S) (t : ℕ) (st : ReceiverStatus) (closed : Bool) → Represents o log s
-      → receiver_status t s.entries ≡ Some st → is_unfilled_block (Some st) ≡ true → (with_front s).queue ≡ [] → closed ≡ is_closed s.senders s.receivers
+      → receiver_status t s.entries ≡ Some st → is_unfilled_block (Some st) ≡ true → (with_front s).queue ≡ []
+      → closed ≡ is_closed s.senders s.receivers
       → new ≡ without_receiver t s → Represents o ((Withdraw t, Gone closed None) ∷ log) new
   withdraw_leaves o log s new t st closed h represents blocking none closed_is is =
       let at = one_found (entry_of t s.entries) st represents in

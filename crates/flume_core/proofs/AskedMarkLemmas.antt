@@ -45,7 +45,8 @@ module _ {T : Type 0} where
   blocks_unfilled k Woken e = refl
 
   -- one that is such that it looks isn't filled
-  pub unfilled_as : (k : Kind) (mark : Mark T) (st : ReceiverStatus) → status_by k mark ≡ st → looks (Some st) ≡ true → is_filled mark ≡ false
+  pub unfilled_as : (k : Kind) (mark : Mark T) (st : ReceiverStatus) → status_by k mark ≡ st → looks (Some st) ≡ true
+      → is_filled mark ≡ false
   unfilled_as k mark st e looking = looks_unfilled k mark (ap (λ x. looks (Some x)) e ∙ looking)
 
   -- one of another kind that isn't filled
@@ -102,7 +103,8 @@ module _ {T : Type 0} (A : Type 0) where
   polled_blocked c _ _ e = absurd (let no : ⊥ = cc in no)
 
   -- one that blocks may leave with the front
-  pub gone_got : (c : Channel T) (t : ℕ) (k : Kind) (mark : Mark T) (m : T) → is_unfilled_block (Some (status_by k mark)) ≡ true → IsFront c m
+  pub gone_got : (c : Channel T) (t : ℕ) (k : Kind) (mark : Mark T) (m : T) → is_unfilled_block (Some (status_by k mark)) ≡ true
+      → IsFront c m
       → IsGoneMark {A = A} c t k mark (Got m)
   gone_got c t k (Filled x) m e front = absurd (let none : ⊥ = cc in none)
   gone_got c t Block Waiting m e front = front

@@ -54,7 +54,8 @@ module _ {T N : Type 0} where
   bare_round tell m [] = refl
   bare_round tell m (e ∷ es) = by_case (is_waiting e.mark) refl e.kind refl (bare_round tell m es)
     where
-      by_case : (b : Bool) → is_waiting e.mark ≡ b → (k : Kind) → e.kind ≡ k → map bare (round tell m es) ≡ round same_notice m (map bare es)
+      by_case : (b : Bool) → is_waiting e.mark ≡ b → (k : Kind) → e.kind ≡ k
+          → map bare (round tell m es) ≡ round same_notice m (map bare es)
           → map bare (round tell m (e ∷ es)) ≡ round same_notice m (map bare (e ∷ es))
       by_case true waits Stream k rest = simp (waits, k) (ap₂ (λ a l. a ∷ l) refl rest)
       by_case true waits Plain k rest = simp (waits, k) refl
@@ -114,7 +115,8 @@ module _ {T N : Type 0} where
       → map bare (after_leave tell t queue es) ≡ after_leave same_notice t queue (map bare es)
   bare_after_leave tell t queue es = go (passes_on (entry_of t es)) refl
     where
-      go : (b : Bool) → passes_on (entry_of t es) ≡ b → map bare (after_leave tell t queue es) ≡ after_leave same_notice t queue (map bare es)
+      go : (b : Bool) → passes_on (entry_of t es) ≡ b → map bare (after_leave tell t queue es) ≡ after_leave same_notice t queue
+          (map bare es)
       go true e =
           rw (bare_passes t es, e) (bare_round_for tell queue (without_ticket t es) ∙ ap (round_for same_notice queue) (bare_without t es))
       go false e = rw (bare_passes t es, e) (bare_without t es)

@@ -17,7 +17,8 @@ use Rattle.flume_state.specs.State.{State, offers_of}
 use Rattle.flume_core.specs.Represents.{Represents}
 use Rattle.flume_state.specs.Effects.{after_admissions, after_admissions_of}
 use Rattle.flume_model.proofs.order.LineStepLemmas.{line_drains, apart_in_line, line_over}
-use Rattle.flume_core.proofs.ViewLemmas.{mark, status, status_is, greatest_kept, queued_length, queue_at_log, offered_messages, line_length, nil_by, line_is, queued}
+use Rattle.flume_core.proofs.ViewLemmas.{mark, status, status_is, greatest_kept, queued_length, queue_at_log}
+use Rattle.flume_core.proofs.ViewLemmas.{offered_messages, line_length, nil_by, line_is, queued}
 use Rattle.flume_core.proofs.MarkLemmas.{marks_moved_in}
 use Rattle.flume_core.proofs.RepresentsLemmas.{represents_as, represents_open, represents_over, fits_as, over_same, none_live, peak_kept}
 use Rattle.flume_core.proofs.RepresentsLemmas.{none_parked}

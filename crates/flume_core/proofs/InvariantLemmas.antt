@@ -114,7 +114,8 @@ module _ {T A S : Type 0} where
           (over_same past p Stays e refl ∙ open_) is marks refl (peak_kept h old.entries (omega arith)) (omega arith)
       by_case true over =
           let none : length old.queue + length old.blocked ≡ 0 = sym (line_length h) ∙ ap length (line_over past over) in
-          represents_as o (p ∷ past) new _ is (represents_over o past p Stays old _ h reply e (over_same past p Stays e refl ∙ over) (λ c. refl) refl refl
+          represents_as o (p ∷ past) new _ is (represents_over o past p Stays old _ h reply e (over_same past p Stays e refl
+          ∙ over) (λ c. refl) refl refl
           (nil_by old.queue (λ some. omega arith)) (nil_by old.blocked (λ some. omega arith))
           (λ t. marks t ∙ status_is h t ∙ ap (λ b. status b (has_ticket t (offers_of old.blocked))) (none_live past t over))
           (none_parked h over) refl (omega arith) refl refl)
@@ -148,7 +149,11 @@ module _ {T A S : Type 0} where
   -- an end leaves, and none is left
   pub counts_over : (o : Opening) (past : Log T A) (p : Step T × Reply T A) (done : Change T) (old new : State T S)
       → Represents o past old → IsReply (channel o past) p.0 p.1 → change past p.0 p.1 ≡ done → moves_none done ≡ true
-      → tickets_issued done ≡ 0 → new ≡ with_nothing_left (record old { senders = senders_after old.senders done; receivers = receivers_after old.receivers done })
+      → tickets_issued done ≡ 0 → new ≡ with_nothing_left (record old {
+        senders = senders_after old.senders done;
+        receivers =
+            receivers_after old.receivers done;
+      })
       → senders_after old.senders done + receivers_after old.receivers done ≡ 0 → Represents o (p ∷ past) new
   counts_over o past p done old new h reply e moves issued_ is none =
       let a : senders_after old.senders done ≡ senders (p ∷ past) =
@@ -157,4 +162,5 @@ module _ {T A S : Type 0} where
       ap (λ n. receivers_after n done) h.receivers_are ∙ sym (ap (receivers_after (receivers past)) e) in
       let over : is_over (p ∷ past) ≡ true = eq-eqb _ 0 (let gone : senders (p ∷ past) + receivers (p ∷ past) ≡ 0 = omega arith in gone) in
       represents_as o (p ∷ past) new _ is
-      (represents_over o past p done old _ h reply e over (keeps_all done moves).capacity_same refl refl refl refl (λ t. rw get-empty refl) refl refl (omega arith) refl refl)
+      (represents_over o past p done old _ h reply e over (keeps_all done moves).capacity_same refl refl refl refl
+      (λ t. rw get-empty refl) refl refl (omega arith) refl refl)

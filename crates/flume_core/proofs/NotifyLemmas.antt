@@ -42,7 +42,8 @@ module _ {S : Type 0} where
   same_marks_noticed f m k t = same_marks_changed m k (with_notice f) (λ x. refl) t
 
   -- naming what is due keeps all marks
-  pub same_marks_named : (m n : SendMap S) (named : Option ℕ) → IfSome named (λ t. n ≡ noticed_send no_longer_due t m) → IfNone named (n ≡ m)
+  pub same_marks_named : (m n : SendMap S) (named : Option ℕ) → IfSome named (λ t. n ≡ noticed_send no_longer_due t m)
+      → IfNone named (n ≡ m)
       → SameMarks n m
   same_marks_named m n None some none t = rw none refl
   same_marks_named m n (Some k) some none t = rw some (same_marks_noticed no_longer_due m k t)
@@ -64,7 +65,8 @@ module _ {T S : Type 0} where
 
 module _ {T A S : Type 0} where
   -- what a log knows of a state doesn't change if no mark does
-  pub represents_if_same_marks : (o : Opening) (log : Log T A) (old new : State T S) (m : SendMap S) (es : EntryList T S) → Represents o log old
+  pub represents_if_same_marks : (o : Opening) (log : Log T A) (old new : State T S) (m : SendMap S) (es : EntryList T S)
+      → Represents o log old
       → new ≡ record old { sends = m; entries = es } → SameMarks m old.sends → map bare es ≡ map bare old.entries → Represents o log new
   represents_if_same_marks o log old new m es h e marks same =
       let P : State T S → Type 0 = λ s. Represents o log s in

@@ -137,7 +137,8 @@ module _ {T A S : Type 0} where
       let same : n ≡ fill_count (leave_fills t old.queue old.entries) = ap fill_count fills in omega arith in
       let rest : after_fill (leave_fills t old.queue old.entries) old.queue ≡ drop n old.queue =
       ap (λ f. after_fill f old.queue) (sym fills) ∙ unfilled_is filled old.queue in
-      represents_as o (p ∷ past) new _ (is ∙ departed_is t old) (represents_open o past p (Leaves t filled) old _ h reply e still_open record {
+      represents_as o (p ∷ past) new _ (is
+      ∙ departed_is t old) (represents_open o past p (Leaves t filled) old _ h reply e still_open record {
         capacity_is = refl;
         greatest_is = greatest_kept h;
         queued = drop n (queued h);

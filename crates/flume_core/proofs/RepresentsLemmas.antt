@@ -1,5 +1,6 @@
 -- What a step has to leave of a state for it to represent the log with that step added.
-use Rattle.std.proofs.Common.{◌≡◌, ℕ, ◌+◌, ◌<◌, ◌≤◌, Bool, true, false, not, ◌&&◌, ◌||◌, eqb, List, [], ◌∷◌, ◌++◌, length, drop, take, map, max}
+use Rattle.std.proofs.Common.{◌≡◌, ℕ, ◌+◌, ◌<◌, ◌≤◌, Bool, true, false, not, ◌&&◌, ◌||◌, eqb, List, [], ◌∷◌}
+use Rattle.std.proofs.Common.{◌++◌, length, drop, take, map, max}
 use Rattle.std.proofs.Common.{Option, None, refl, sym, ◌∙◌, ap, ap₂, subst, arith, ne_eqb}
 use Rattle.std.proofs.Math.Bool.{and-true}
 use Rattle.std.proofs.lemmas.Bool.{cond-true, cond-false}
@@ -9,7 +10,8 @@ use Rattle.flume_model.specs.declared.step.Step.{Step}
 use Rattle.flume_model.specs.declared.step.Reply.{Reply}
 use Rattle.flume_model.specs.Log.{Log, Opening, Offer, Change, change}
 use Rattle.flume_model.specs.Counts.{senders, receivers, senders_after, receivers_after, is_over}
-use Rattle.flume_model.specs.Line.{line, boundary, queue, boundary_after, capacity, capacity_after, greater, blocked, messages, tickets_issued, next_ticket, issues, spends, is_live}
+use Rattle.flume_model.specs.Line.{line, boundary, queue, boundary_after, capacity, capacity_after, greater}
+use Rattle.flume_model.specs.Line.{blocked, messages, tickets_issued, next_ticket, issues, spends, is_live}
 use Rattle.flume_model.specs.Channel.{channel, has_ticket}
 use Rattle.flume_model.specs.Replies.{IsReply, IsRun}
 use Rattle.flume_model.specs.Entries.{waiting_count}
@@ -101,7 +103,8 @@ module _ {T A S : Type 0} where
   represents_as o log s u e h = subst (λ (x : State T S). Represents o log x) (sym e) h
 
   -- what such a step leaves represents the longer log
-  pub represents_open : (o : Opening) (past : Log T A) (p : Step T × Reply T A) (done : Change T) (old new : State T S) → Represents o past old
+  pub represents_open : (o : Opening) (past : Log T A) (p : Step T × Reply T A) (done : Change T) (old new : State T S)
+      → Represents o past old
       → IsReply (channel o past) p.0 p.1 → change past p.0 p.1 ≡ done → is_over (p ∷ past) ≡ false → LeftBy o past p done old new
       → Represents o (p ∷ past) new
   represents_open o past p done old new h reply e open_ by =
@@ -140,7 +143,8 @@ module _ {T A S : Type 0} where
       }
 
   -- once over, what has no message and no ticket left represents the log
-  pub represents_over : (o : Opening) (past : Log T A) (p : Step T × Reply T A) (done : Change T) (old new : State T S) → Represents o past old
+  pub represents_over : (o : Opening) (past : Log T A) (p : Step T × Reply T A) (done : Change T) (old new : State T S)
+      → Represents o past old
       → IsReply (channel o past) p.0 p.1 → change past p.0 p.1 ≡ done → is_over (p ∷ past) ≡ true
       → ((c : Option ℕ) → capacity_after c done ≡ c)
       → new.capacity ≡ old.capacity → new.greatest ≡ old.greatest → new.queue ≡ [] → new.blocked ≡ []
@@ -148,7 +152,8 @@ module _ {T A S : Type 0} where
       → new.next ≡ old.next + tickets_issued done → new.senders ≡ senders_after old.senders done
       → new.receivers ≡ receivers_after old.receivers done
       → Represents o (p ∷ past) new
-  represents_over o past p done old new h reply e over keeps same_capacity same_greatest no_queue no_blocked no_sends no_entries same_peak next senders_
+  represents_over o past p done old new h reply e over keeps same_capacity same_greatest no_queue no_blocked no_sends no_entries same_peak
+      next senders_
       receivers_ =
       let in_force : new.capacity ≡ capacity o (p ∷ past) =
       same_capacity ∙ h.capacity_is ∙ sym (ap (capacity_after (capacity o past)) e ∙ keeps (capacity o past)) in

@@ -52,7 +52,8 @@ module _ {T A S : Type 0} where
           ⊎ ((is_full (Some c) (length old.queue) ≡ false) × HasRoom (Some c) (length old.queue))
           → Represents o (p ∷ past) new
       by_room (inl full) =
-          represents_as o (p ∷ past) new set_ (is ∙ fills_none_full set_ full.1) (represents_open o past p (Resizes c) old set_ h reply e still_open record {
+          represents_as o (p ∷ past) new set_ (is ∙ fills_none_full set_ full.1)
+          (represents_open o past p (Resizes c) old set_ h reply e still_open record {
             capacity_is = refl;
             greatest_is = refl;
             queued = queued h;
@@ -85,7 +86,8 @@ module _ {T A S : Type 0} where
             greatest_is = refl;
             queued = (queued h) ++ offers_of at.moved;
             line_is = whole;
-            queue_is = ap₂ (λ a b. a ++ b) h.queue_is (sym (offered_messages at.moved)) ∙ sym (map-append _ (queued h) (offers_of at.moved));
+            queue_is = ap₂ (λ a b. a ++ b) h.queue_is (sym (offered_messages at.moved))
+                ∙ sym (map-append _ (queued h) (offers_of at.moved));
             length_is = length-append old.queue _ ∙ ap (λ n. length old.queue + n) (length-map at.moved _)
                 ∙ grows_long c (length old.queue) (length at.moved) (length at.later) at.in_capacity enough
                 ∙ ap (λ n. max (length old.queue) (min c n)) (sym long);

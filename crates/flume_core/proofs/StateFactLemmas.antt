@@ -21,7 +21,8 @@ use Rattle.flume_state.specs.State.{State, accepted_at, offers_of, bare}
 use Rattle.flume_core.specs.Represents.{Represents}
 use Rattle.flume_core.specs.StateFacts.{SendersBlockAtCapacity, ReceiversWaitWhileOpen, WokenCoverQueued}
 use Rattle.flume_core.specs.StateFacts.{QueuedAndWaitingAreBounded, ReceiverTicketsApart, SendTicketsApart, BlockedTicketsRise}
-use Rattle.flume_core.specs.StateFacts.{BlockedSendsAreLive, AcceptedBeforeBlocked, EmptyOnceOver, BlockingWokenByClosing, ChannelFacts, NobodyIsStuck}
+use Rattle.flume_core.specs.StateFacts.{BlockedSendsAreLive, AcceptedBeforeBlocked, EmptyOnceOver}
+use Rattle.flume_core.specs.StateFacts.{BlockingWokenByClosing, ChannelFacts, NobodyIsStuck}
 use Rattle.flume_core.proofs.BareEntryLemmas.{bare_waiting, bare_entry}
 use Rattle.flume_model.proofs.order.KeptLemmas.{line_is_open}
 use Rattle.flume_model.proofs.TicketLemmas.{rising_filter}

@@ -17,7 +17,8 @@ use Rattle.flume_state.specs.Messages.{Blocked}
 use Rattle.flume_state.specs.Sends.{changed, accepted_now}
 use Rattle.flume_state.specs.State.{State, offers_of, bare}
 use Rattle.flume_core.specs.Represents.{Represents}
-use Rattle.flume_state.specs.Effects.{after_admission, after_admission_of, after_refill, with_front, with_front_of, after_take as taken_state}
+use Rattle.flume_state.specs.Effects.{after_admission, after_admission_of, after_refill, with_front}
+use Rattle.flume_state.specs.Effects.{with_front_of, after_take as taken_state}
 use Rattle.flume_model.specs.declared.entry.Entry.{Entry}
 use Rattle.flume_model.specs.Entries.{waiting_count, without_ticket}
 use Rattle.flume_model.specs.Parked.{entries_after, is_closed_after}
@@ -85,9 +86,11 @@ module _ {T A S : Type 0} where
       → line past ≡ x ∷ (queued ++ offers_of new.blocked) → new.queue ≡ messages queued
       → length new.queue ≡ max (length old.queue - 1) (capped old.capacity (length queued + length new.blocked))
       → ((t : ℕ) → mark new.sends t ≡ status (is_live past t && true) (has_ticket t (offers_of new.blocked)))
-      → new.capacity ≡ old.capacity → new.greatest ≡ old.greatest → new.next ≡ old.next → new.senders ≡ old.senders → new.receivers ≡ old.receivers
+      → new.capacity ≡ old.capacity → new.greatest ≡ old.greatest → new.next ≡ old.next → new.senders ≡ old.senders
+      → new.receivers ≡ old.receivers
       → new.entries ≡ released receiver old.entries → new.peak ≡ old.peak → Represents o (p ∷ past) new
-  taken o past p old new m receiver x queued h reply e at queue long marks same_capacity same_greatest same_next same_senders same_receivers left_parked
+  taken o past p old new m receiver x queued h reply e at queue long marks same_capacity same_greatest same_next same_senders
+      same_receivers left_parked
       same_peak =
       let open_ : is_over past ≡ false = open_at past [] (queued ++ offers_of new.blocked) x at in
       let left : line (p ∷ past) ≡ queued ++ offers_of new.blocked =
@@ -103,7 +106,8 @@ module _ {T A S : Type 0} where
         length_is = long ∙ ap (λ c. max (length old.queue - 1) (capped c (length queued + length new.blocked))) (sym same_capacity)
             ∙ ap (λ n. max (length old.queue - 1) (capped new.capacity n)) (sym many);
         marks = marks;
-        entries_are = ap (map bare) left_parked ∙ released_bare receiver old.entries m old.queue (not (is_closed_after past) && is_closed_after (p ∷ past));
+        entries_are = ap (map bare) left_parked
+            ∙ released_bare receiver old.entries m old.queue (not (is_closed_after past) && is_closed_after (p ∷ past));
         peak_is = same_peak ∙ peak_kept h new.entries
             (let fewer = released_fewer receiver old.entries in let same = ap waiting_count left_parked in omega arith);
         next_is = omega arith;

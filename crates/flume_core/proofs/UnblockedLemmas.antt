@@ -32,7 +32,10 @@ module _ {T S : Type 0} where
 
   -- the front of the queue goes out, and leaves what a take leaves
   pub takes_alone : (s : State T S) (l : Messages T S) (r : Option T) → length s.blocked ≡ 0
-      → IfSome r (λ m. record { queued = s.queue; blocked = s.blocked; space = s.space; sends = s.sends } ≡ record l { queued = m ∷ l.queued })
+      → IfSome r (λ m. record { queued = s.queue; blocked = s.blocked; space = s.space; sends = s.sends } ≡ record l {
+        queued =
+            m ∷ l.queued;
+      })
       → IfSome r (λ m. (rest : List T) × ((with_front s).queue ≡ m ∷ rest)
       × (record s { queue = l.queued; blocked = l.blocked; space = l.space; sends = l.sends } ≡ after_take rest s))
   takes_alone s l None none h = tt

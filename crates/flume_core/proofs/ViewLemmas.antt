@@ -194,7 +194,8 @@ module _ {T A S : Type 0} where
       h.greatest_is ∙ greatest_covers o log ∙ ap₂ greater (sym h.greatest_is) (sym h.capacity_is)
 
   -- while a receiver waits, none is blocked
-  pub none_blocked_waiting : {o : Opening} {log : Log T A} {s : State T S} → Represents o log s → some_wait s.entries ≡ true → s.blocked ≡ []
+  pub none_blocked_waiting : {o : Opening} {log : Log T A} {s : State T S} → Represents o log s → some_wait s.entries ≡ true
+      → s.blocked ≡ []
   none_blocked_waiting {o} {log} {s} h some =
       let long = line_length h in
       let n = boundary_is h in

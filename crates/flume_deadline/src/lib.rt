@@ -1,5 +1,4 @@
-//! Deadlines: until when a call waits. A time that the clock gave is a value here, so what follows
-//! from it can be proved. A clock that can't be read counts as past each deadline.
+//! Deadlines: until when a call waits. A clock that can't be read counts as past each deadline.
 #![tactic(auto)]
 
 ghost use Rattle.std.specs.Prelude.{◌≡◌, ◌≢◌, ℕ, ◌+◌, ◌<◌, ◌≤◌, ◌↔◌, true, false, IsErr, IsNone};
@@ -21,7 +20,6 @@ pub enum Deadline {
 
 impl Deadline {
     /// This long from now: `Never` if the deadline overflows, `Reached` if the clock can't be read.
-    ///
     /// ```
     /// let deadline = Deadline::after(&rt, Duration::from_secs(1));
     /// deadline.is_reached(&rt);              // false, within this second

@@ -1,4 +1,4 @@
--- The texts of the errors: what `{}` writes of each, and what `{:?}` writes of a send error.
+-- The texts of the errors: what `{}` writes of each, and what `{:?}` writes of a `TrySendError`.
 use Rattle.std.specs.Prelude.{ℕ, List, codes}
 use Rattle.flume_error.specs.declared.error.SelectError.{SelectError}
 use Rattle.flume_error.specs.declared.error.SelectError.TheVariants as select
@@ -71,11 +71,3 @@ module _ {T : Type 0} where
   try_send_debug_text (try_send.Full message) = codes "\"Full(..)\""
   try_send_debug_text (try_send.Disconnected message) = codes "\"Disconnected(..)\""
   try_send_debug_text (try_send.NoMemory message) = codes "\"NoMemory(..)\""
-
--- of each `SendError` under `{:?}`, quotation marks included
-abbrev pub send_debug_text : List ℕ
-send_debug_text = codes "\"SendError(..)\""
-
--- of each `SendTimeoutError` under `{:?}`, quotation marks included
-abbrev pub send_timeout_debug_text : List ℕ
-send_timeout_debug_text = codes "\"SendTimeoutError(..)\""

@@ -32,14 +32,16 @@ use Rattle.flume_explain.proofs.MirrorAdmitLemmas.{admits_all, blocked_kept, rec
 receives_admitted : (reply_by_place : PlaceReply) (place : ℕ) (c : State) → IsNew place c
     → All (IsPlaceAfter reply.Parked reply_by_place place (map (λ r. r.place) c.receives)) (map (λ r. r.place) (admit_all c).receives)
 receives_admitted reply_by_place place c new =
-    subst (λ rs. All (IsPlaceAfter reply.Parked reply_by_place place (map (λ r. r.place) c.receives)) (map (λ r. r.place) rs)) (sym (receives_kept c.blocked c))
+    subst (λ rs. All (IsPlaceAfter reply.Parked reply_by_place place (map (λ r. r.place) c.receives)) (map (λ r. r.place) rs))
+    (sym (receives_kept c.blocked c))
     (receives_stay reply_by_place place c.receives new.not_parked)
 
 -- the blocked sends that are left then
 blocked_admitted : (reply_by_place : PlaceReply) (place : ℕ) (c : State) → IsNew place c
     → All (IsPlaceAfter reply.Pending reply_by_place place c.blocked) (admit_all c).blocked
 blocked_admitted reply_by_place place c new =
-    blocked_kept (IsPlaceAfter reply.Pending reply_by_place place c.blocked) c.blocked c refl (places_left reply_by_place place c.blocked new.not_blocked)
+    blocked_kept (IsPlaceAfter reply.Pending reply_by_place place c.blocked) c.blocked c refl
+    (places_left reply_by_place place c.blocked new.not_blocked)
 
 module _ {T A : Type 0} (events : List (Event T A)) where
   -- all that is queued is handed out

@@ -58,7 +58,8 @@ module _ {T A : Type 0} (equal : T → T → Bool) (events : List (Event T A)) (
           let mine : u ≡ t = moved.0 in
           subst (λ (v : ℕ). Agrees equal events o (Makes v step reply ∷ past) rest new) (sym mine)
           (leads rest t other first chosen o past step reply
-          (subst (λ (b : Bool). IsMade equal events c rest t one own mv b o past step reply) so (is_made o past u step reply agrees moved run)))
+          (subst (λ (b : Bool). IsMade equal events c rest t one own mv b o past step reply) so
+          (is_made o past u step reply agrees moved run)))
 
       pub step_wrong : (recorded : Option (Answer T A)) → first_answer t rest ≡ recorded → (want : Bool) → refused ≡ want
           → CallLeadsNowhere equal events c recorded one own mv want → LeadsNowhere equal events c rest t other refused
@@ -67,4 +68,5 @@ module _ {T A : Type 0} (equal : T → T → Bool) (events : List (Event T A)) (
           let mine : u ≡ t = moved.0 in
           subst (λ (v : ℕ). IsWrong equal events (open_call (Makes v step reply ∷ past) t) (first_answer t rest)) (sym mine)
           (wrong rest t other first chosen o past step reply
-          (subst (λ (b : Bool). IsMade equal events c rest t one own mv b o past step reply) so (is_made o past u step reply agrees moved run)))
+          (subst (λ (b : Bool). IsMade equal events c rest t one own mv b o past step reply) so
+          (is_made o past u step reply agrees moved run)))

@@ -26,10 +26,11 @@ use Rattle.flume_explain.specs.Agreement.{Agrees, AreParked, IsOpenAs, IsOwn, Is
 use Rattle.flume_explain.proofs.CallListLemmas.{not_equal, differ, call_by_once, call_by_thread, once_other, own_once, threads_still}
 use Rattle.flume_explain.proofs.CallListLemmas.{parked_other, parked_none, parked_now, parked_self}
 
--- what a step leaves of the parked calls: where the call that moved is parked, it has a new ticket or was parked before
+-- what a step leaves of the parked calls: if the call that moved is parked, it has a new ticket or was parked before
 module _ {T A : Type 0} (equal : T → T → Bool) (events : List (Event T A)) where
   -- a step by which a call goes on, and the channel is as the configuration has it
-  pub agrees_after : (o : Opening) (past : List (Item T A)) (rest : List (Event T A)) (c new : State) (t : ℕ) (one : OpenCall) (own : Call T)
+  pub agrees_after : (o : Opening) (past : List (Item T A)) (rest : List (Event T A)) (c new : State) (t : ℕ) (one : OpenCall)
+      (own : Call T)
       (stage : Stage T A) (step : Step T) (reply : Reply T A) (q : Progress) (tickets : ℕ → ℕ) (s : Channel T (Unit {0}))
       (h : Agrees equal events o past rest c)
       → call_by events t c.calls ≡ Some one → call_at events one.place ≡ Some own → open_call past t ≡ Some (own, stage)
@@ -37,7 +38,8 @@ module _ {T A : Type 0} (equal : T → T → Bool) (events : List (Event T A)) w
       → IsProgress equal events own (first_answer t rest) (tickets one.place) q (stage_after own stage reply)
       → Represents o ((step, reply) ∷ steps_in past) s → Mirrors events tickets s new → AreParked events tickets s.next new
       → Agrees equal events o (Makes t step reply ∷ past) rest new
-  agrees_after o past rest c new t one own stage step reply q tickets s h is_own call_is opened calls kept progress represents mirrors parked_ =
+  agrees_after o past rest c new t one own stage step reply q tickets s h is_own call_is opened calls kept progress represents mirrors
+      parked_ =
       record {
         state = s;
         represents = represents;
@@ -52,7 +54,8 @@ module _ {T A : Type 0} (equal : T → T → Bool) (events : List (Event T A)) w
       here : IsOpenAs equal events tickets (first_answer t rest) (call_by events t new.calls) (after_reply reply (open_call past t))
       here =
           subst₂ (λ (a : Option OpenCall) (b : Option (Call T × Stage T A)). IsOpenAs equal events tickets (first_answer t rest) a b)
-          (sym (ap (call_by events t) calls ∙ own_once events t q c.calls one is_own)) (sym (ap (after_reply reply) opened)) (call_is, progress)
+          (sym (ap (call_by events t) calls ∙ own_once events t q c.calls one is_own)) (sym (ap (after_reply reply) opened))
+          (call_is, progress)
 
       others : (u : ℕ) → eqb t u ≡ false → (a : Option OpenCall) → call_by events u c.calls ≡ a → (current : Option (Call T × Stage T A))
           → IsOpenAs equal events h.tickets (first_answer u rest) a current
@@ -69,14 +72,18 @@ module _ {T A : Type 0} (equal : T → T → Bool) (events : List (Event T A)) w
           (let no : ⊥ = not_equal t u tu is in no) in
           subst (λ (y : OpenCall). (call_at events y.place ≡ Some current.0)
           × IsProgress equal events current.0 (first_answer u rest) (tickets y.place) y.progress current.1)
-          (sym (once_other one.place q x other))
-          (m.0, subst (λ (n : ℕ). IsProgress equal events current.0 (first_answer u rest) n x.progress current.1) (sym (kept x.place other)) m.1)
+          (sym (once_other one.place q x other)) (
+            m.0,
+            subst (λ (n : ℕ). IsProgress equal events current.0 (first_answer u rest) n x.progress current.1)
+                (sym (kept x.place other)) m.1,
+          )
 
       by_thread : (u : ℕ) (b : Bool) → eqb t u ≡ b
           → IsOpenAs equal events tickets (first_answer u rest) (call_by events u new.calls)
           (if b then after_reply reply (open_call past u) else open_call past u)
       by_thread u true is =
-          subst (λ (v : ℕ). IsOpenAs equal events tickets (first_answer v rest) (call_by events v new.calls) (after_reply reply (open_call past v)))
+          subst (λ (v : ℕ). IsOpenAs equal events tickets (first_answer v rest) (call_by events v new.calls)
+          (after_reply reply (open_call past v)))
           (eqb-true t u is) here
       by_thread u false is =
           subst (λ (a : Option OpenCall). IsOpenAs equal events tickets (first_answer u rest) a (open_call past u))

@@ -53,14 +53,16 @@ use Rattle.flume_explain.proofs.AgreeingLemmas.{agrees_after}
 
 module _ {T A : Type 0} (events : List (Event T A)) where
   -- the same reply is alike
-  pub same_alike : (n : ℕ) (queue : List ℕ) (reply_by_place : PlaceReply) (r other : Reply T A) → SameReply r other → Corresponds events n queue reply_by_place r
+  pub same_alike : (n : ℕ) (queue : List ℕ) (reply_by_place : PlaceReply) (r other : Reply T A) → SameReply r other
+      → Corresponds events n queue reply_by_place r
       → Corresponds events n queue reply_by_place other
   same_alike n queue reply.Drained (Drained list) (Drained other) same h = h ∙ ap (map Some) same
   same_alike n queue _ (Drained list) (Drained other) same h = absurd h
   same_alike n queue reply_by_place r other same h = subst (Corresponds events n queue reply_by_place) same h
 
   -- no reply by places is want of memory
-  pub had_memory : (n : ℕ) (queue : List ℕ) (reply_by_place : PlaceReply) (r : Reply T A) → Corresponds events n queue reply_by_place r → IsNoMemory r → ⊥
+  pub had_memory : (n : ℕ) (queue : List ℕ) (reply_by_place : PlaceReply) (r : Reply T A) → Corresponds events n queue reply_by_place r
+      → IsNoMemory r → ⊥
   had_memory n queue reply.Sent (NoMemory back) h w = h
   had_memory n queue _ (NoMemory back) h w = h
   had_memory n queue reply_by_place _ h w = w
@@ -118,7 +120,8 @@ placed_all P (r ∷ rs) h =
     (placed_all P rs (All-tail P r.place (map (λ r. r.place) rs) h))
 
 -- who isn't parked by a step is parked as before
-pub waits_on : {T : Type 0} (own : Call T) (p : Progress) (reply_by_place : PlaceReply) → parks reply_by_place ≡ false → stays_parked reply_by_place ≡ true → IsMet own reply_by_place p
+pub waits_on : {T : Type 0} (own : Call T) (p : Progress) (reply_by_place : PlaceReply) → parks reply_by_place ≡ false
+    → stays_parked reply_by_place ≡ true → IsMet own reply_by_place p
     → is_parked p ≡ true
 waits_on own p reply.Waiting off on met = ap is_parked met
 waits_on own p reply.Pending off on met = absurd (let none : ⊥ = cc in none)
@@ -127,9 +130,11 @@ waits_on own p _ off on met = absurd (let none : ⊥ = cc in none)
 
 module _ {T A : Type 0} (equal : T → T → Bool) (events : List (Event T A)) where
   -- the call that moves is as its move needs it
-  pub ready : (c : State) (t : ℕ) (one : OpenCall) (own : Call T) (mv : Move) (tickets : ℕ → ℕ) (next : ℕ) → All (IsOwn equal events c.calls) c.calls
+  pub ready : (c : State) (t : ℕ) (one : OpenCall) (own : Call T) (mv : Move) (tickets : ℕ → ℕ) (next : ℕ)
+      → All (IsOwn equal events c.calls) c.calls
       → call_at events one.place ≡ Some own → (one.progress ≡ progress.Refused → is_send own ≡ false)
-      → call_by events t c.calls ≡ Some one → AreParked events tickets next c → IsAllowed own one.progress mv → IsReady mv tickets one.place c
+      → call_by events t c.calls ≡ Some one → AreParked events tickets next c → IsAllowed own one.progress mv
+      → IsReady mv tickets one.place c
   ready c t one own mv tickets next apart call_is refuses is_own parked_ may = by_move mv may
     where
       fresh : is_parked one.progress ≡ false → IsNew one.place c

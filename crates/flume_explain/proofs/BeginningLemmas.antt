@@ -20,15 +20,18 @@ module _ {T A : Type 0} (equal : T → T → Bool) where
   some_events o (event ∷ events) not_on = omega arith
 
   -- all of them aren't
-  pub all_not_on : (o : Opening) (events : List (Event T A)) → (IsExplained equal o events → ⊥) → IsExplained equal o (take (length events) events) → ⊥
+  pub all_not_on : (o : Opening) (events : List (Event T A)) → (IsExplained equal o events → ⊥)
+      → IsExplained equal o (take (length events) events) → ⊥
   all_not_on o events not_on explained = not_on (subst (IsExplained equal o) (take_all (length events) events (omega arith)) explained)
 
   -- a beginning of a beginning
-  shorter : (events : List (Event T A)) (n count : ℕ) → count < length (take n events) → take (count + 1) (take n events) ≡ take (count + 1) events
+  shorter : (events : List (Event T A)) (n count : ℕ) → count < length (take n events)
+      → take (count + 1) (take n events) ≡ take (count + 1) events
   shorter events n count within = let size = length-take n events in take-take (count + 1) n events (omega arith)
 
   -- if a beginning of the events stops being explained after so many, so do the events
-  pub breaks_on : (o : Opening) (events : List (Event T A)) (n count : ℕ) → BreaksAfter equal o (take n events) count → BreaksAfter equal o events count
+  pub breaks_on : (o : Opening) (events : List (Event T A)) (n count : ℕ) → BreaksAfter equal o (take n events) count
+      → BreaksAfter equal o events count
   breaks_on o events n count breaks =
       let size = length-take n events in
       let within = breaks.is_within in
@@ -75,5 +78,6 @@ module _ {T A : Type 0} (equal : T → T → Bool) where
   unexplained_after o events low count place few fewer low_is place_is not_all =
       let size = length-take count events in
       let within = place_is.within in
-      let both = further_explained equal events o low place (record { within = omega arith; explained = low_is }) (explained_on o events count place place_is) in
+      let both = further_explained equal events o low place (record { within = omega arith; explained = low_is })
+      (explained_on o events count place place_is) in
       record { is_within = omega arith; before = both.explained; not_all = not_all }

@@ -59,7 +59,7 @@ parked_other place q p (call ∷ calls) other =
         ap (λ b. b && is_parked q) no ∙ sym (ap (λ b. b && is_parked call.progress) no)
     by_case false is = refl
 
--- where the call isn't parked that goes on, nobody is parked at its place
+-- if the call isn't parked that goes on, nobody is parked at its place
 pub parked_none : (place : ℕ) (q : Progress) (calls : List OpenCall) → is_parked q ≡ false
     → parked_at (calls_with_progress place q calls) place ≡ false
 parked_none place q [] still = refl
@@ -91,7 +91,8 @@ module _ {T A : Type 0} (events : List (Event T A)) where
       → call_by events t (calls_with_progress place q calls) ≡ option_map (call_with_progress place q) (call_by events t calls)
   call_by_once t place q [] = refl
   call_by_once t place q (call ∷ calls) =
-      ap (λ p. if is_thread t (thread_at events p) then Some (call_with_progress place q call) else call_by events t (calls_with_progress place q calls))
+      ap (λ p. if is_thread t (thread_at events p) then Some (call_with_progress place q call) else call_by events t
+      (calls_with_progress place q calls))
       (place_once place q call)
       ∙ elim (is_thread t (thread_at events call.place))
       as (λ b. (if b then Some (call_with_progress place q call) else call_by events t (calls_with_progress place q calls))
@@ -172,7 +173,8 @@ module _ {T A : Type 0} (equal : T → T → Bool) (events : List (Event T A)) w
       → All (IsOwn equal events (calls_with_progress place q calls)) (calls_with_progress place q calls)
   threads_still place q calls h =
       All-map (IsOwn equal events (calls_with_progress place q calls)) (call_with_progress place q) calls
-      (All-weaker (IsOwn equal events calls) (λ call. IsOwn equal events (calls_with_progress place q calls) (call_with_progress place q call))
+      (All-weaker (IsOwn equal events calls) (λ call. IsOwn equal events (calls_with_progress place q calls)
+      (call_with_progress place q call))
       (λ call own. own_still place q calls call own) calls h)
 
   -- whose place is parked is parked, as each thread has one open call

@@ -37,7 +37,8 @@ module _ {T A : Type 0} (equal : T → T → Bool) (events : List (Event T A)) w
   late_step t u step reply call (Happens (Returns v answer) ∷ items) rest late is = let none : ⊥ = cc in none
 
   -- late steps come before an event
-  some_event : (v : ℕ) (other : Step T) (back : Reply T A) (xs : List (Item T A)) → AreLate (Makes v other back ∷ xs) → events_in xs ≡ [] → ⊥
+  some_event : (v : ℕ) (other : Step T) (back : Reply T A) (xs : List (Item T A)) → AreLate (Makes v other back ∷ xs) → events_in xs ≡ []
+      → ⊥
   some_event v other back [] late is = late.0
   some_event v other back (Makes w s r ∷ xs) late is = some_event w s r xs late.1 is
   some_event v other back (Happens event ∷ xs) late is = let none : ⊥ = cc in none
@@ -94,7 +95,8 @@ module _ {T A : Type 0} (equal : T → T → Bool) (events : List (Event T A)) w
               )
 
   -- no step stands before the return of a call that has its answer
-  none_before : (t : ℕ) (call : Call T) (own recorded_answer : Answer T A) (u : ℕ) (step : Step T) (reply : Reply T A) (past items : List (Item T A))
+  none_before : (t : ℕ) (call : Call T) (own recorded_answer : Answer T A) (u : ℕ) (step : Step T) (reply : Reply T A)
+      (past items : List (Item T A))
       (rest : List (Event T A)) → open_call past t ≡ Some (call, stage.Answered own) → AreLate (Makes u step reply ∷ items)
       → events_in items ≡ Returns t recorded_answer ∷ rest → AreCalls equal (onto items (Makes u step reply ∷ past)) → ⊥
   none_before t call own recorded_answer u step reply past [] rest so late is calls = late.0
@@ -109,25 +111,32 @@ module _ {T A : Type 0} (equal : T → T → Bool) (events : List (Event T A)) w
     where
       by : (open_call (Makes u step reply ∷ past) t ≡ Some (call, stage.Answered own) → ⊥)
           → (b : Bool) → (u == t) ≡ b → IsNextStep (open_call past u) step → ⊥
-      by on true own_step fits = no_step equal events (open_call past u) call own (ap (open_call past) (eqb-true u t own_step) ∙ so) step fits
+      by on true own_step fits = no_step equal events (open_call past u) call own (ap (open_call past) (eqb-true u t own_step)
+          ∙ so) step fits
       by on false off fits = on (ap (λ b. if b then after_reply reply (open_call past t) else open_call past t) off ∙ so)
 
   pub only_returns : (place : ℕ) (c : State) (choices : List Choice) (t : ℕ) (recorded_answer : Answer T A) (call : OpenCall)
       → event_at events place ≡ Some (Returns t recorded_answer) → call_by events t c.calls ≡ Some call → call.progress ≡ Done
       → Contains choices TakeEvent → CoverNext equal events place c choices
-  only_returns place c choices t recorded_answer call returns by_it done has o past (Happens event) items agrees short on = (TakeEvent, has, (event, refl))
+  only_returns place c choices t recorded_answer call returns by_it done has o past (Happens event) items agrees short on =
+      (TakeEvent, has, (event, refl))
   only_returns place c choices t recorded_answer call returns by_it done has o past (Makes u step reply) items agrees short on = absurd
-      (answered (open_call past t) refl (subst (λ x. IsOpenAs equal events agrees.tickets (first_answer t (drop place events)) x (open_call past t))
+      (answered (open_call past t) refl (subst (λ x. IsOpenAs equal events agrees.tickets (first_answer t (drop place events)) x
+      (open_call past t))
       by_it (agrees.calls_are t)))
     where
-      follow : (call : Call T) (own : Answer T A) → open_call past t ≡ Some (call, stage.Answered own) → (rest : List (Event T A)) → events_in items ≡ rest → ⊥
+      follow : (call : Call T) (own : Answer T A) → open_call past t ≡ Some (call, stage.Answered own) → (rest : List (Event T A))
+          → events_in items ≡ rest → ⊥
       follow call own so [] is = some_event u step reply items on.late_steps is
       follow call own so (event ∷ rest) is =
           let there = event_there equal events events place event rest (sym is ∙ on.events_are) in
-          let same : event ≡ Returns t recorded_answer = (let k = sym there.0 ∙ returns in let e : event ≡ Returns t recorded_answer = cc in e) in
-          none_before t call own recorded_answer u step reply past items rest so on.late_steps (is ∙ ap (λ e. e ∷ rest) same) on.explains.calls
+          let same : event ≡ Returns t recorded_answer = (let k = sym there.0 ∙ returns in let e : event ≡ Returns t recorded_answer =
+          cc in e) in
+          none_before t call own recorded_answer u step reply past items rest so on.late_steps (is
+          ∙ ap (λ e. e ∷ rest) same) on.explains.calls
 
-      stage_is : (own : Call T) (s : Stage T A) → IsProgress equal events own (first_answer t (drop place events)) (agrees.tickets call.place) Done s
+      stage_is : (own : Call T) (s : Stage T A) → IsProgress equal events own (first_answer t (drop place events))
+          (agrees.tickets call.place) Done s
           → open_call past t ≡ Some (own, s) → ⊥
       stage_is own stage.Begun h so = h
       stage_is own stage.Tried h so = h
@@ -139,7 +148,8 @@ module _ {T A : Type 0} (equal : T → T → Bool) (events : List (Event T A)) w
           → IsOpenAs equal events agrees.tickets (first_answer t (drop place events)) (Some call) current → ⊥
       answered None so h = h
       answered (Some current) so h = stage_is current.0 current.1
-          (subst (λ p. IsProgress equal events current.0 (first_answer t (drop place events)) (agrees.tickets call.place) p current.1) done h.1) so
+          (subst (λ p. IsProgress equal events current.0 (first_answer t (drop place events)) (agrees.tickets call.place) p current.1)
+          done h.1) so
 
   -- a thread with no call open returns nothing
   none_open : (t : ℕ) (recorded_answer : Answer T A) (past items : List (Item T A)) (rest : List (Event T A)) → open_call past t ≡ None
@@ -163,16 +173,19 @@ module _ {T A : Type 0} (equal : T → T → Bool) (events : List (Event T A)) w
   pub none_returns : (place : ℕ) (c : State) (choices : List Choice) (t : ℕ) (recorded_answer : Answer T A)
       → event_at events place ≡ Some (Returns t recorded_answer) → call_by events t c.calls ≡ None
       → Contains choices TakeEvent → CoverNext equal events place c choices
-  none_returns place c choices t recorded_answer returns_it no_call has o past (Happens event) items agrees short on = (TakeEvent, has, (event, refl))
+  none_returns place c choices t recorded_answer returns_it no_call has o past (Happens event) items agrees short on =
+      (TakeEvent, has, (event, refl))
   none_returns place c choices t recorded_answer returns_it no_call has o past (Makes u step reply) items agrees short on = absurd
-      (by (open_call past t) refl (subst (λ x. IsOpenAs equal events agrees.tickets (first_answer t (drop place events)) x (open_call past t))
+      (by (open_call past t) refl (subst (λ x. IsOpenAs equal events agrees.tickets (first_answer t (drop place events)) x
+      (open_call past t))
       no_call (agrees.calls_are t)))
     where
       follow : open_call past t ≡ None → (rest : List (Event T A)) → events_in items ≡ rest → ⊥
       follow so [] is = some_event u step reply items on.late_steps is
       follow so (event ∷ rest) is =
           let there = event_there equal events events place event rest (sym is ∙ on.events_are) in
-          let same : event ≡ Returns t recorded_answer = (let k = sym there.0 ∙ returns_it in let e : event ≡ Returns t recorded_answer = cc in e) in
+          let same : event ≡ Returns t recorded_answer = (let k = sym there.0 ∙ returns_it in let e : event ≡ Returns t recorded_answer =
+          cc in e) in
           none_open t recorded_answer past (Makes u step reply ∷ items) rest so (is ∙ ap (λ e. e ∷ rest) same) on.explains.calls
 
       by : (current : Option (Call T × Stage T A)) → open_call past t ≡ current

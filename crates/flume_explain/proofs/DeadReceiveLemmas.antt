@@ -76,10 +76,11 @@ module _ {T A : Type 0} (equal : T → T → Bool) (events : List (Event T A)) w
       let k = event_there all place event rest is in
       (k.0, k.1 ∙ ap (λ n. drop n (first ∷ all)) (let more : suc (place + 1) ≡ suc place + 1 = omega arith in more))
 
-  -- the event is spent where it leads to a dead configuration, and where it can't come
+  -- the event is spent if it leads to a dead configuration, and if it can't come
   pub spent_event : (place : ℕ) (c new : State) → EventLeads equal events place c new → IsDead equal events (place + 1) new
       → IsSpent equal events place c TakeEvent
-  spent_event place c new leads gone o past (Makes u step reply) items agrees short on of = let is = of.1 in absurd (let none : ⊥ = cc in none)
+  spent_event place c new leads gone o past (Makes u step reply) items agrees short on of = let is = of.1 in
+      absurd (let none : ⊥ = cc in none)
   spent_event place c new leads gone o past (Happens event) items agrees short on of =
       let there = event_there events place event (events_in items) on.events_are in
       let fits = (before o (Happens event ∷ past) items on.explains).calls.0 in
@@ -92,7 +93,7 @@ module _ {T A : Type 0} (equal : T → T → Bool) (events : List (Event T A)) w
       let there = event_there events place event (events_in items) on.events_are in
       waits o past event agrees there.0 (before o (Happens event ∷ past) items on.explains).calls.0
 
-  -- a step is spent where it leads to a dead configuration, to the same one, or nowhere
+  -- a step is spent if it leads to a dead configuration, to the same one, or nowhere
   abbrev pub Leads : ℕ → State → OpenCall → (other refused : Bool) → State → Type 0
   Leads place c call other refused new = (t : ℕ) → Contains c.calls call → thread_at events call.place ≡ Some t
       → LeadsTo equal events c (drop place events) t other refused new
@@ -118,7 +119,8 @@ module _ {T A : Type 0} (equal : T → T → Bool) (events : List (Event T A)) w
   other_of_answered (SendAsync m) own = refl
   other_of_answered _ own = refl
 
-  pub no_step : (current : Option (Call T × Stage T A)) (call : Call T) (own : Answer T A) → current ≡ Some (call, Answered own) → (step : Step T)
+  pub no_step : (current : Option (Call T × Stage T A)) (call : Call T) (own : Answer T A) → current ≡ Some (call, Answered own)
+      → (step : Step T)
       → IsNextStep current step → ⊥
   no_step current call own is step next = none (subst (λ f. IsNextStep f step) is next)
     where
@@ -155,10 +157,12 @@ module _ {T A : Type 0} (equal : T → T → Bool) (events : List (Event T A)) w
       by (λ k e. wrong t call own recorded_answer (Happens (Returns u answer) ∷ past) items never k e calls)
       (u == t) refl (calls_before (Happens (Returns u answer) ∷ past) items calls).0
     where
-      by : (open_call (Happens (Returns u answer) ∷ past) t ≡ Some (call, Answered own) → first_answer t (events_in items) ≡ Some recorded_answer → ⊥)
+      by : (open_call (Happens (Returns u answer) ∷ past) t ≡ Some (call, Answered own)
+          → first_answer t (events_in items) ≡ Some recorded_answer → ⊥)
           → (b : Bool) → (u == t) ≡ b → IsTrue (returns equal (open_call past u) answer) → ⊥
       by on true is fits =
-          let picked : Some answer ≡ Some recorded_answer = sym (ap (λ b. if b then Some answer else first_answer t (events_in items)) is) ∙ first in
+          let picked : Some answer ≡ Some recorded_answer = sym (ap (λ b. if b then Some answer else first_answer t (events_in items)) is)
+          ∙ first in
           let same : answer ≡ recorded_answer = cc in
           let may : IsTrue (may_return equal call (Answered own) recorded_answer) =
           subst (λ a. IsTrue (may_return equal call (Answered own) a)) same
@@ -181,7 +185,8 @@ module _ {T A : Type 0} (equal : T → T → Bool) (events : List (Event T A)) w
       (off of.0 of.1 of.2 o past (Makes u step reply) agrees of.3 (before o (Makes u step reply ∷ past) items on.explains).run)
     where
       by : (current : Option (Call T × Stage T A)) → open_call (Makes u step reply ∷ past) of.0 ≡ current
-          → (recorded_answer : Option (Answer T A)) → first_answer of.0 (drop place events) ≡ recorded_answer → IsWrong equal events current recorded_answer → ⊥
+          → (recorded_answer : Option (Answer T A)) → first_answer of.0 (drop place events) ≡ recorded_answer
+          → IsWrong equal events current recorded_answer → ⊥
       by None so recorded_answer first h = h
       by (Some current) so None first h = h
       by (Some current) so (Some recorded_answer) first h =

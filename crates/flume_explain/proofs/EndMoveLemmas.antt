@@ -24,7 +24,7 @@ use Rattle.flume_explain.proofs.MirrorViewLemmas.{closed_same}
 use Rattle.flume_explain.proofs.LeavingEndLemmas.{end_dropped_mirrors, blocked_end_dropped, receives_end_dropped}
 
 module _ {T A : Type 0} (events : List (Event T A)) where
-  -- an end joins: it is none where there is none, or where there are as many as can be counted
+  -- an end joins: it is none if there is none, or if there are as many as can be counted
   no_end_joins : (n : ℕ) (more c : State) → n ≡ 0 → clone_outcome n more c ≡ (reply.NoEnd, c)
   no_end_joins n more c none = let zero : (n == 0) ≡ true = eq-eqb n 0 none in rw zero refl
 
@@ -130,7 +130,7 @@ module _ {T A : Type 0} (events : List (Event T A)) where
           (changes_nothing events o log s c tickets place step.CloneReceiver reply.CountFull own.CountFull h m new lawful refl refl tt)
       by_given _ lawful = absurd lawful
 
-  -- an end leaves: it is none where there is none
+  -- an end leaves: it is none if there is none
   no_end_leaves : (n : ℕ) (fewer c : State) → n ≡ 0 → drop_outcome n fewer c ≡ (reply.NoEnd, c)
   no_end_leaves n fewer c none = let zero : (n == 0) ≡ true = eq-eqb n 0 none in rw zero refl
 

@@ -60,7 +60,8 @@ module _ {T A : Type 0} (equal : T → T → Bool) (events : List (Event T A)) w
       (fewer equal events place c [] TakeEvent left (spent_wait equal events place c waits))
 
   -- what is known of the frame that a search takes off
-  pub search_pop : (start : State) (search : Search A) (frames : List (Frame A)) (frame : Frame A) → search.frames.items ≡ frames ++ frame ∷ []
+  pub search_pop : (start : State) (search : Search A) (frames : List (Frame A)) (frame : Frame A)
+      → search.frames.items ≡ frames ++ frame ∷ []
       → Searches equal events start (Unit {0}) search → Popped (IsDead equal events 0 start) frames frame (Unit {0})
   search_pop start search frames frame is s = way_pop (IsDead equal events 0 start) frames frame (Unit {0})
       (subst (λ l. AreOnTheWay equal events (IsDead equal events 0 start) l (Unit {0})) is s.way)
@@ -79,8 +80,10 @@ module _ {T A : Type 0} (equal : T → T → Bool) (events : List (Event T A)) w
       let popped = search_pop start search frames frame is s in (
         subst (λ l. AreOnTheWay equal events (IsDead equal events 0 start) l (IsDead equal events at new)) (sym to)
             (way_push (IsDead equal events 0 start) frames left (IsDead equal events at new)
-            (way_from (IsDead equal events 0 start) frames (IsDead equal events frame.place frame.configuration) (IsDead equal events left.place left.configuration)
-            (λ gone. subst (λ n. IsDead equal events n frame.configuration) same_place (subst (λ x. IsDead equal events left.place x) same gone)) popped.0)
+            (way_from (IsDead equal events 0 start) frames (IsDead equal events frame.place frame.configuration)
+            (IsDead equal events left.place left.configuration)
+            (λ gone. subst (λ n. IsDead equal events n frame.configuration) same_place
+            (subst (λ x. IsDead equal events left.place x) same gone)) popped.0)
             (subst (λ n. n < length events) (sym same_place) popped.1) leads),
         s.dead,
       )
@@ -93,15 +96,19 @@ module _ {T A : Type 0} (equal : T → T → Bool) (events : List (Event T A)) w
   search_dead start search frames gone frame left is remembered same_place same none s =
       let popped = search_pop start search frames frame is s in (
         way_from (IsDead equal events 0 start) frames (IsDead equal events frame.place frame.configuration) (Unit {0})
-            (λ x. subst (λ n. IsDead equal events n frame.configuration) same_place (subst (λ x. IsDead equal events left.place x) same none)) popped.0,
+            (λ x. subst (λ n. IsDead equal events n frame.configuration) same_place
+            (subst (λ x. IsDead equal events left.place x) same none)) popped.0,
         subst (All (λ d. IsDead equal events d.place d.configuration)) (sym remembered)
-            (All-push (λ (d : Dead A). IsDead equal events d.place d.configuration) search.dead.dead.items (dead_at left.place left.configuration) s.dead none),
+            (All-push (λ (d : Dead A). IsDead equal events d.place d.configuration) search.dead.dead.items
+            (dead_at left.place left.configuration) s.dead none),
       )
 
   -- with no frame left, the start is dead
-  pub search_ends : (start : State) (search : Search A) → search.frames.items ≡ [] → Searches equal events start (Unit {0}) search → IsDead equal events 0 start
+  pub search_ends : (start : State) (search : Search A) → search.frames.items ≡ [] → Searches equal events start (Unit {0}) search
+      → IsDead equal events 0 start
   search_ends start search none s = subst (λ l. AreOnTheWay equal events (IsDead equal events 0 start) l (Unit {0})) none s.way tt
 
 -- what was pushed, if that was done
-pub was_pushed : {X : Type 0} (done : Bool) (before after more : List X) → after ≡ (if done then more else before) → done ≡ true → after ≡ more
+pub was_pushed : {X : Type 0} (done : Bool) (before after more : List X) → after ≡ (if done then more else before) → done ≡ true
+    → after ≡ more
 was_pushed done before after more is so = is ∙ ap (λ b. if b then more else before) so

@@ -14,11 +14,11 @@ use Rattle.flume_concurrent.specs.declared.event.Item.TheVariants.{Happens}
 use Rattle.flume_concurrent.specs.declared.stage.Stage.{Stage}
 use Rattle.flume_concurrent.specs.declared.stage.Stage.TheVariants as stage
 use Rattle.flume_concurrent.specs.Answers.{may_return}
-use Rattle.flume_concurrent.specs.Explanations.{open_call, returns, Fits}
+use Rattle.flume_concurrent.specs.Explanations.{open_call, returns, thread_of, Fits}
 use Rattle.flume_explain.specs.declared.configuration.OpenCall.{OpenCall}
 use Rattle.flume_explain.specs.declared.configuration.Progress.{Progress}
 use Rattle.flume_explain.specs.declared.configuration.Progress.TheVariants.{Begun, Tried, Parked, Refused, Done}
-use Rattle.flume_explain.specs.Configurations.{State, event_at, thread_at, call_by, is_thread, is_parked, first_answer, thread_of, call_of}
+use Rattle.flume_explain.specs.Configurations.{State, event_at, thread_at, call_by, is_thread, is_parked, first_answer, call_of}
 use Rattle.flume_explain.specs.Agreement.{Agrees, AreParked, IsOpenAs, IsOwn, IsProgress, parked_at}
 use Rattle.flume_explain.specs.Happens.{new_call, with_call, without_call}
 use Rattle.flume_explain.specs.Dead.{EventLeads}
@@ -34,7 +34,8 @@ module _ {T A : Type 0} (events : List (Event T A)) (tickets : ℕ → ℕ) (nex
   parked_same parked = record {
     tickets_apart = λ p q hp hq. parked.tickets_apart p q (sym (same p) ∙ hp) (sym (same q) ∙ hq);
     tickets_below = λ p hp. parked.tickets_below p (sym (same p) ∙ hp);
-    blocked_parked = All-weaker (λ p. parked_at c.calls p ≡ true) (λ p. parked_at calls p ≡ true) (λ p h. same p ∙ h) c.blocked parked.blocked_parked;
+    blocked_parked = All-weaker (λ p. parked_at c.calls p ≡ true) (λ p. parked_at calls p ≡ true) (λ p h. same p
+        ∙ h) c.blocked parked.blocked_parked;
     receives_parked = All-weaker (λ r. parked_at c.calls r.place ≡ true) (λ r. parked_at calls r.place ≡ true) (λ r h. same r.place ∙ h)
         c.receives parked.receives_parked;
     blocked_send = parked.blocked_send;
@@ -60,8 +61,14 @@ module _ {T A : Type 0} (equal : T → T → Bool) (events : List (Event T A)) w
         };
         calls_are = λ u. at u (t == u) refl;
         threads_apart = All-push (IsOwn equal events calls) c.calls (new_call place)
-            (All-weaker (IsOwn equal events c.calls) (IsOwn equal events calls) (λ x own. (own.0, own.1, call_by-kept events own.0 c.calls (new_call place ∷ []) x own.2))
-            c.calls agrees.threads_apart) (t, thread, call_by-new events t c.calls (new_call place) no_call (ap (is_thread t) thread ∙ eq-eqb t t refl));
+            (All-weaker (IsOwn equal events c.calls) (IsOwn equal events calls)
+            (λ x own. (own.0, own.1, call_by-kept events own.0 c.calls (new_call place ∷ []) x own.2))
+            c.calls agrees.threads_apart) (
+              t,
+              thread,
+              call_by-new events t c.calls (new_call place) no_call (ap (is_thread t) thread
+                  ∙ eq-eqb t t refl),
+            );
         parked = parked_same events agrees.tickets agrees.state.next c calls (parked_at-begun c.calls place) agrees.parked;
       })
     where
@@ -76,7 +83,8 @@ module _ {T A : Type 0} (equal : T → T → Bool) (events : List (Event T A)) w
 
       no_call : call_by events t c.calls ≡ None
       no_call = by (call_by events t c.calls) refl
-          (subst (IsOpenAs equal events agrees.tickets (first_answer t (drop place events)) (call_by events t c.calls)) none (agrees.calls_are t))
+          (subst (IsOpenAs equal events agrees.tickets (first_answer t (drop place events)) (call_by events t c.calls)) none
+          (agrees.calls_are t))
         where
           by : (x : Option OpenCall) → call_by events t c.calls ≡ x
               → IsOpenAs equal events agrees.tickets (first_answer t (drop place events)) x None → call_by events t c.calls ≡ None
@@ -103,11 +111,14 @@ module _ {T A : Type 0} (equal : T → T → Bool) (events : List (Event T A)) w
           (if b then Some (call, stage.Begun) else open_call past u)) (sym is)
           (subst (λ x. IsOpenAs equal events agrees.tickets (first_answer u (drop (place + 1) events)) x (open_call past u))
           (sym (call_by-other events u c.calls (new_call place) (ap (is_thread u) thread ∙ is)))
-          (subst (λ f. IsOpenAs equal events agrees.tickets f (call_by events u c.calls) (open_call past u)) (first u) (agrees.calls_are u)))
+          (subst (λ f. IsOpenAs equal events agrees.tickets f (call_by events u c.calls) (open_call past u)) (first u)
+          (agrees.calls_are u)))
 
   -- a call that may return isn't parked
-  not_parked : (call : Call T) (recorded : Option (Answer T A)) (ticket : ℕ) (recorded_answer : Answer T A) (progress : Progress) (current : Stage T A)
-      → IsProgress equal events call recorded ticket progress current → may_return equal call current recorded_answer ≡ true → is_parked progress ≡ false
+  not_parked : (call : Call T) (recorded : Option (Answer T A)) (ticket : ℕ) (recorded_answer : Answer T A) (progress : Progress)
+      (current : Stage T A)
+      → IsProgress equal events call recorded ticket progress current → may_return equal call current recorded_answer ≡ true
+      → is_parked progress ≡ false
   not_parked call recorded ticket recorded_answer Begun current h may = refl
   not_parked call recorded ticket recorded_answer Tried current h may = refl
   not_parked call recorded ticket recorded_answer Done current h may = refl
@@ -142,7 +153,8 @@ module _ {T A : Type 0} (equal : T → T → Bool) (events : List (Event T A)) w
     off_thread u off = ap (is_thread u) its_thread ∙ off
 
     -- who is left has the thread of its own
-    still_own : (x : OpenCall) → IsOwn equal events c.calls x → not (x.place == one.place) ≡ true → IsOwn equal events (without one.place c.calls) x
+    still_own : (x : OpenCall) → IsOwn equal events c.calls x → not (x.place == one.place) ≡ true
+        → IsOwn equal events (without one.place c.calls) x
     still_own x h kept = (h.0, h.1, by (t == h.0) refl)
       where
         by : (b : Bool) → (t == h.0) ≡ b → call_by events h.0 (without one.place c.calls) ≡ Some x
@@ -152,13 +164,15 @@ module _ {T A : Type 0} (equal : T → T → Bool) (events : List (Event T A)) w
         by false is = call_by-without_other events h.0 one.place c.calls (off_thread h.0 is) ∙ h.2
 
     -- all who are left have
-    all_still_own : All (IsOwn equal events c.calls) c.calls → All (IsOwn equal events (without one.place c.calls)) (without one.place c.calls)
+    all_still_own : All (IsOwn equal events c.calls) c.calls
+        → All (IsOwn equal events (without one.place c.calls)) (without one.place c.calls)
     all_still_own all k d within = still_own (get_or (without one.place c.calls) k d)
         (All-filter (λ (x : OpenCall). not (x.place == one.place)) (IsOwn equal events c.calls) c.calls all k d within)
         (filter_passes (λ (x : OpenCall). not (x.place == one.place)) c.calls k d within)
 
   -- the open call of a thread returns
-  pub returns_leads : (place : ℕ) (c : State) (t : ℕ) (recorded_answer : Answer T A) (one : OpenCall) → event_at events place ≡ Some (Returns t recorded_answer)
+  pub returns_leads : (place : ℕ) (c : State) (t : ℕ) (recorded_answer : Answer T A) (one : OpenCall)
+      → event_at events place ≡ Some (Returns t recorded_answer)
       → call_by events t c.calls ≡ Some one → EventLeads equal events place c (without_call one.place c)
   returns_leads place c t recorded_answer one returns_it own o past event agrees there fits =
       subst (λ e. Agrees equal events o (Happens e ∷ past) (drop (place + 1) events) (without_call one.place c)) (sym same) (record {
@@ -176,7 +190,8 @@ module _ {T A : Type 0} (equal : T → T → Bool) (events : List (Event T A)) w
         calls_are = λ u. at u (t == u) refl;
         threads_apart = all_still_own c t one own agrees.threads_apart;
         parked = parked_same events agrees.tickets agrees.state.next c calls (λ p. parked_at-without one.place c.calls p
-            (All-weaker (IsOwn equal events c.calls) (IsIdle one.place) (idle c t one own free) c.calls agrees.threads_apart)) agrees.parked;
+            (All-weaker (IsOwn equal events c.calls) (IsIdle one.place) (idle c t one own free) c.calls agrees.threads_apart))
+            agrees.parked;
       })
     where
       calls : List OpenCall
@@ -187,28 +202,34 @@ module _ {T A : Type 0} (equal : T → T → Bool) (events : List (Event T A)) w
 
       free : is_parked one.progress ≡ false
       free = by (open_call past t) (subst (λ e. Fits equal past (Happens e)) same fits)
-          (subst (λ x. IsOpenAs equal events agrees.tickets (first_answer t (drop place events)) x (open_call past t)) own (agrees.calls_are t))
+          (subst (λ x. IsOpenAs equal events agrees.tickets (first_answer t (drop place events)) x (open_call past t)) own
+          (agrees.calls_are t))
         where
           by : (current : Option (Call T × Stage T A)) → IsTrue (returns equal current recorded_answer)
-              → IsOpenAs equal events agrees.tickets (first_answer t (drop place events)) (Some one) current → is_parked one.progress ≡ false
+              → IsOpenAs equal events agrees.tickets (first_answer t (drop place events)) (Some one) current
+              → is_parked one.progress ≡ false
           by None may h = absurd h
-          by (Some current) may h = not_parked current.0 (first_answer t (drop place events)) (agrees.tickets one.place) recorded_answer one.progress current.1 h.1 may
+          by (Some current) may h = not_parked current.0 (first_answer t (drop place events))
+              (agrees.tickets one.place) recorded_answer one.progress current.1 h.1 may
 
       rest_is : drop place events ≡ Returns t recorded_answer ∷ drop (place + 1) events
       rest_is = events_from events place (Returns t recorded_answer) returns_it
 
       at : (u : ℕ) (b : Bool) → (t == u) ≡ b
-          → IsOpenAs equal events agrees.tickets (first_answer u (drop (place + 1) events)) (call_by events u calls) (if t == u then None else open_call past u)
+          → IsOpenAs equal events agrees.tickets (first_answer u (drop (place + 1) events)) (call_by events u calls)
+          (if t == u then None else open_call past u)
       at u true is =
           subst (λ b. IsOpenAs equal events agrees.tickets (first_answer u (drop (place + 1) events)) (call_by events u calls)
           (if b then None else open_call past u)) (sym is)
           (subst (λ x. IsOpenAs equal events agrees.tickets (first_answer u (drop (place + 1) events)) x None)
           (sym (subst (λ v. call_by events v calls ≡ None) (eqb-true t u is) (call_by-without_own events t one.place c.calls
-          (All-weaker (IsOwn equal events c.calls) (StandsAt events t one.place) (stands_at c t one own) c.calls agrees.threads_apart)))) tt)
+          (All-weaker (IsOwn equal events c.calls) (StandsAt events t one.place) (stands_at c t one own) c.calls agrees.threads_apart))))
+          tt)
       at u false is =
           subst (λ b. IsOpenAs equal events agrees.tickets (first_answer u (drop (place + 1) events)) (call_by events u calls)
           (if b then None else open_call past u)) (sym is)
           (subst (λ x. IsOpenAs equal events agrees.tickets (first_answer u (drop (place + 1) events)) x (open_call past u))
           (sym (call_by-without_other events u one.place c.calls (off_thread c t one own u is)))
           (subst (λ f. IsOpenAs equal events agrees.tickets f (call_by events u c.calls) (open_call past u))
-          (ap (first_answer u) rest_is ∙ ap (λ b. if b then Some recorded_answer else first_answer u (drop (place + 1) events)) is) (agrees.calls_are u)))
+          (ap (first_answer u) rest_is ∙ ap (λ b. if b then Some recorded_answer else first_answer u (drop (place + 1) events)) is)
+          (agrees.calls_are u)))

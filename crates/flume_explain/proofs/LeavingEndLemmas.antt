@@ -44,7 +44,8 @@ pub blocked_end_dropped : (reply_by_place : PlaceReply) (place : ℕ) (was : Boo
     → All (IsPlaceAfter reply.Pending reply_by_place place c.blocked) (end_dropped was c).blocked
 blocked_end_dropped reply_by_place place was c new = by_cases (c.senders + c.receivers == 0) (not was && closed_now c)
   where
-    by_cases : (gone closes : Bool) → All (IsPlaceAfter reply.Pending reply_by_place place c.blocked) (if gone then record c { queue = []; blocked = []; receives = [] }
+    by_cases : (gone closes : Bool) → All (IsPlaceAfter reply.Pending reply_by_place place c.blocked)
+        (if gone then record c { queue = []; blocked = []; receives = [] }
         else (if closes then record c { receives = map woken_if_waiting c.receives } else c)).blocked
     by_cases true closes = All-nil (IsPlaceAfter reply.Pending reply_by_place place c.blocked)
     by_cases false true = places_left reply_by_place place c.blocked new.not_blocked

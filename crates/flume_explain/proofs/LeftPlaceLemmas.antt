@@ -24,16 +24,20 @@ map_same f g (x ∷ xs) same =
     ap₂ (λ y ys. y ∷ ys) (All-head (λ y. f y ≡ g y) x xs same) (map_same f g xs (All-tail (λ y. f y ≡ g y) x xs same))
 
 -- those that are left are those before, none of which is the place
-pub all_left : {joins : PlaceReply} (reply_by_place : PlaceReply) (place : ℕ) (xs : List ℕ) → All (λ q. q ≢ place) xs → All (IsPlaceAfter joins reply_by_place place xs) xs
+pub all_left : {joins : PlaceReply} (reply_by_place : PlaceReply) (place : ℕ) (xs : List ℕ) → All (λ q. q ≢ place) xs
+    → All (IsPlaceAfter joins reply_by_place place xs) xs
 all_left reply_by_place place xs none k d lt = inl (All-contains_itself xs k d lt, inl (none k d lt))
 
 -- they are, if the call is parked after as before
-pub all_stay : {joins : PlaceReply} (reply_by_place : PlaceReply) (place : ℕ) (xs : List ℕ) → stays_parked reply_by_place ≡ true → All (IsPlaceAfter joins reply_by_place place xs) xs
+pub all_stay : {joins : PlaceReply} (reply_by_place : PlaceReply) (place : ℕ) (xs : List ℕ) → stays_parked reply_by_place ≡ true
+    → All (IsPlaceAfter joins reply_by_place place xs) xs
 all_stay reply_by_place place xs parked k d lt = inl (All-contains_itself xs k d lt, inr parked)
 
 -- one more is left, which is the place, by the reply by which one joins
-pub one_joins : (reply_by_place : PlaceReply) (place : ℕ) (xs : List ℕ) → All (λ q. q ≢ place) xs → All (IsPlaceAfter reply_by_place reply_by_place place xs) (xs ++ place ∷ [])
-one_joins reply_by_place place xs none = All-push (IsPlaceAfter reply_by_place reply_by_place place xs) xs place (all_left reply_by_place place xs none) (inr (refl, refl))
+pub one_joins : (reply_by_place : PlaceReply) (place : ℕ) (xs : List ℕ) → All (λ q. q ≢ place) xs
+    → All (IsPlaceAfter reply_by_place reply_by_place place xs) (xs ++ place ∷ [])
+one_joins reply_by_place place xs none = All-push (IsPlaceAfter reply_by_place reply_by_place place xs) xs place
+    (all_left reply_by_place place xs none) (inr (refl, refl))
 
 -- the places of parked receives, of which none is this one
 pub none_of : (place : ℕ) (rs : List ParkedReceive) → All (λ r. r.place ≢ place) rs → All (λ q. q ≢ place) (map (λ r. r.place) rs)

@@ -62,11 +62,11 @@ pub mod BeginningLemmas
 pub mod SeenPatternLemmas
 -- The configuration of a new channel agrees with no items; so if it is dead, nothing explains the events.
 pub mod StartLemmas
--- Where a wake round ends at a receive, those behind it stay as they are.
+-- If a wake round ends at a receive, those behind it stay as they are.
 pub mod RoundLemmas
 -- What is done to parked receives by their places is done to entries by their tickets: a wake round, one that leaves, one that asks again.
 pub mod RenamingLemmas
--- What is done to parked receives by their places is done to entries by their tickets, where no two places share a ticket.
+-- What is done to parked receives by their places is done to entries by their tickets, if no two places share a ticket.
 pub mod PlacingLemmas
 -- Who is left blocked or parked by a move, by places; and the tickets of places, once one has a new ticket.
 pub mod LeftPlaceLemmas
@@ -82,7 +82,7 @@ pub mod MirrorReceiveLemmas
 pub mod MirrorAdmitLemmas
 -- Blocked sends join the queue one by one while it has room.
 pub mod AdmissionLemmas
--- What many moves have in common: the step that a move is, who is left where nobody moves, and a move that changes nothing.
+-- What many moves have in common: the step that a move is, who is left if nobody moves, and a move that changes nothing.
 pub mod MoveCaseLemmas
 -- The moves by which a message is offered: they answer as their steps do.
 pub mod SendMoveLemmas

@@ -159,7 +159,8 @@ module _ {T A : Type 0} (events : List (Event T A)) where
           → All (λ q. q ≢ place) (places (without_place place c.receives))
       others_elsewhere o log represents =
           let t = tickets place in
-          let in_log : map placed c.receives ≡ map some_entry (entries o log) = h.receives_are ∙ ap (map some_entry) represents.entries_are in
+          let in_log : map placed c.receives ≡ map some_entry (entries o log) = h.receives_are
+          ∙ ap (map some_entry) represents.entries_are in
           let gone : entry_of t (without_ticket t (entries o log)) ≡ None =
           left_out (next_ticket o log) t (entries o log) (entries_apart o log represents.run) in
           let none : option_map placed (receive_of place (without_place place c.receives)) ≡ None =

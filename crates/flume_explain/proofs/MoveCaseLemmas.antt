@@ -1,4 +1,4 @@
--- What many moves have in common: the step that a move is, who is left where nobody moves, and a move that changes nothing.
+-- What many moves have in common: the step that a move is, who is left if nobody moves, and a move that changes nothing.
 use Rattle.std.proofs.Common.{◌≡◌, ◌≢◌, ℕ, false, if◌then◌else◌, List, [], ◌∷◌, map, refl, sym, subst, inl}
 use Rattle.std.proofs.lemmas.List.Elements.{All-nil, All-cons, All-head, All-tail, All-map, All-weaker, All-contains_itself}
 use Rattle.std.specs.List.{All, Contains}
@@ -30,7 +30,8 @@ all_both P Q (x ∷ xs) ps qs =
 pub places_left : {joins : PlaceReply} (reply_by_place : PlaceReply) (place : ℕ) (before : List ℕ) → All (λ q. q ≢ place) before
     → All (IsPlaceAfter joins reply_by_place place before) before
 places_left reply_by_place place before others =
-    All-weaker (λ q. Contains before q × (q ≢ place)) (IsPlaceAfter _ reply_by_place place before) (λ q both. inl (both.0, inl both.1)) before
+    All-weaker (λ q. Contains before q × (q ≢ place)) (IsPlaceAfter _ reply_by_place place before)
+    (λ q both. inl (both.0, inl both.1)) before
     (all_both (Contains before) (λ q. q ≢ place) before (All-contains_itself before) others)
 
 -- of the parked receives too

@@ -17,6 +17,7 @@ use Rattle.flume_explain.proofs.MoveAnswers.{parks}
 use Rattle.flume_concurrent.specs.declared.call.Call.{Call}
 use Rattle.flume_concurrent.specs.declared.call.Call.TheVariants as call
 use Rattle.flume_concurrent.specs.Calls.{is_send}
+use Rattle.flume_concurrent.specs.Calls.{message_of}
 use Rattle.flume_explain.specs.declared.configuration.ParkedReceive.{ParkedReceive}
 use Rattle.flume_explain.specs.declared.configuration.Progress.{Progress}
 use Rattle.flume_explain.specs.declared.configuration.Progress.TheVariants.{Begun, Tried, Parked, Refused, Done}
@@ -26,7 +27,7 @@ use Rattle.flume_explain.specs.declared.place_reply.PlaceReply.{PlaceReply}
 use Rattle.flume_explain.specs.declared.place_reply.PlaceReply.TheVariants as reply
 use Rattle.flume_explain.specs.declared.step_of.Move.{Move}
 use Rattle.flume_explain.specs.declared.step_of.Move.TheVariants as move
-use Rattle.flume_explain.specs.Configurations.{State, is_parked, message_of}
+use Rattle.flume_explain.specs.Configurations.{State, is_parked}
 use Rattle.flume_explain.specs.Receives.{receive_of}
 use Rattle.flume_explain.specs.ByPlaces.{closed_now, full_now, some_waits, with_front, join, without_receive, ask_again, resize}
 use Rattle.flume_explain.specs.ByPlaces.{end_dropped}
@@ -166,10 +167,12 @@ may_answer mv reply_by_place = true
 
 -- what holds of each reply that an answer may have holds of its reply
 module _ (P : PlaceReply → Type 0) where
-  offered_has : (no_room : ReplyAndState) (place : ℕ) (c : State) → P reply.Closed → P no_room.0 → P reply.Sent → P (offer_outcome no_room place c).0
+  offered_has : (no_room : ReplyAndState) (place : ℕ) (c : State) → P reply.Closed → P no_room.0 → P reply.Sent
+      → P (offer_outcome no_room place c).0
   offered_has no_room place c closed full sent = by_case (closed_now c) (not (some_waits c.receives) && full_now c)
     where
-      by_case : (a b : Bool) → P (let answer : ReplyAndState = if a then (reply.Closed, c) else (if b then no_room else (reply.Sent, join place c)) in answer).0
+      by_case : (a b : Bool) → P (let answer : ReplyAndState =
+          if a then (reply.Closed, c) else (if b then no_room else (reply.Sent, join place c)) in answer).0
       by_case true b = closed
       by_case false true = full
       by_case false false = sent
@@ -177,7 +180,8 @@ module _ (P : PlaceReply → Type 0) where
   back_has : (place : ℕ) (c : State) → P (reply.Returned (closed_now c)) → P (take_back_outcome place c).0
   back_has place c back = back
 
-  received_has : (none ended : ReplyAndState) (c : State) → ((p : ℕ) → P (reply.Got p)) → P none.0 → P reply.Ended → P (receive_outcome none ended.1 c).0
+  received_has : (none ended : ReplyAndState) (c : State) → ((p : ℕ) → P (reply.Got p)) → P none.0 → P reply.Ended
+      → P (receive_outcome none ended.1 c).0
   received_has none ended c got empty_ over = by_queue (with_front c).queue (closed_now c)
     where
       by_queue : (queue : List ℕ) (b : Bool) → P (receive_outcome_from queue (if b then (reply.Ended, ended.1) else none) c).0
@@ -218,10 +222,12 @@ poll_may place (Some r) c = polled_may place r.kind r.status c
 
 -- a receive that leaves and may take a message
 taken_may : (place : ℕ) (c : State)
-    → May move.Withdraw (leaves_with place (receive_outcome_from (with_front c).queue (reply.Gone (closed_now c), without_receive place c) c)).0
+    → May move.Withdraw (leaves_with place (receive_outcome_from (with_front c).queue (reply.Gone (closed_now c), without_receive place c)
+    c)).0
 taken_may place c = by_queue (with_front c).queue
   where
-    by_queue : (queue : List ℕ) → May move.Withdraw (leaves_with place (receive_outcome_from queue (reply.Gone (closed_now c), without_receive place c) c)).0
+    by_queue : (queue : List ℕ) → May move.Withdraw
+        (leaves_with place (receive_outcome_from queue (reply.Gone (closed_now c), without_receive place c) c)).0
     by_queue [] = refl
     by_queue (p ∷ rest) = refl
 
@@ -246,7 +252,8 @@ leave_may place (Some r) c = left_may place r.kind r.status c
 withdrawn_may : (place : ℕ) (c : State) → May move.WithdrawSend (withdraw_send_outcome place c).0
 withdrawn_may place c = by_case (is_blocked place c)
   where
-    by_case : (b : Bool) → May move.WithdrawSend (let answer : ReplyAndState = if b then take_back_outcome place c else (reply.Accepted, c) in answer).0
+    by_case : (b : Bool) → May move.WithdrawSend (let answer : ReplyAndState = if b then take_back_outcome place c else
+        (reply.Accepted, c) in answer).0
     by_case true = refl
     by_case false = refl
 
@@ -255,7 +262,8 @@ send_may : (place : ℕ) (c : State) → May move.PollSend (poll_send_outcome pl
 send_may place c = by_case (is_blocked place c) (closed_now c)
   where
     by_case : (b k : Bool) → May move.PollSend
-        (let answer : ReplyAndState = if b then (if k then take_back_outcome place c else (reply.Waiting, c)) else (reply.Accepted, c) in answer).0
+        (let answer : ReplyAndState = if b then (if k then take_back_outcome place c else (reply.Waiting, c)) else (reply.Accepted, c) in
+        answer).0
     by_case true true = refl
     by_case true false = refl
     by_case false k = refl
@@ -264,7 +272,8 @@ module _ (mv : Move) (done : May mv reply.Done) where
   cloned_may : (n : ℕ) (more c : State) → May mv reply.NoEnd → May mv reply.CountFull → May mv (clone_outcome n more c).0
   cloned_may n more c none full = by_case (n == 0) (n == most)
     where
-      by_case : (a b : Bool) → May mv (let answer : ReplyAndState = if a then (reply.NoEnd, c) else (if b then (reply.CountFull, c) else (reply.Done, more)) in answer).0
+      by_case : (a b : Bool) → May mv (let answer : ReplyAndState =
+          if a then (reply.NoEnd, c) else (if b then (reply.CountFull, c) else (reply.Done, more)) in answer).0
       by_case true b = none
       by_case false true = full
       by_case false false = done
@@ -272,7 +281,8 @@ module _ (mv : Move) (done : May mv reply.Done) where
   dropped_may : (n : ℕ) (fewer c : State) → May mv reply.NoEnd → May mv (drop_outcome n fewer c).0
   dropped_may n fewer c none = by_case (n == 0)
     where
-      by_case : (a : Bool) → May mv (let answer : ReplyAndState = if a then (reply.NoEnd, c) else (reply.Done, end_dropped (closed_now c) fewer) in answer).0
+      by_case : (a : Bool) → May mv (let answer : ReplyAndState =
+          if a then (reply.NoEnd, c) else (reply.Done, end_dropped (closed_now c) fewer) in answer).0
       by_case true = none
       by_case false = done
 
@@ -281,7 +291,8 @@ resized_may : (old : Option ℕ) (n : ℕ) (c : State) → May (move.SetCapacity
 resized_may None n c = refl
 resized_may (Some old) n c = by_case (closed_now c)
   where
-    by_case : (a : Bool) → May (move.SetCapacity n) (let answer : ReplyAndState = if a then (reply.Ended, c) else (reply.Done, resize n c) in answer).0
+    by_case : (a : Bool) → May (move.SetCapacity n) (let answer : ReplyAndState =
+        if a then (reply.Ended, c) else (reply.Done, resize n c) in answer).0
     by_case true = refl
     by_case false = refl
 
@@ -292,7 +303,8 @@ made_may move.Send p c = offered_has (May move.Send) (reply.Pending, record c { 
 made_may move.PollSend p c = send_may p c
 made_may move.WithdrawSend p c = withdrawn_may p c
 made_may move.TryRecv p c = received_has (May move.TryRecv) (reply.Empty, c) (reply.Ended, c) c (λ p. refl) refl refl
-made_may (move.Recv kind) p c = received_has (May (move.Recv kind)) (reply.Parked, with_parked kind p c) (reply.Ended, c) c (λ p. refl) refl refl
+made_may (move.Recv kind) p c = received_has (May (move.Recv kind)) (reply.Parked, with_parked kind p c) (reply.Ended, c) c
+    (λ p. refl) refl refl
 made_may move.Poll p c = poll_may p (receive_of p c.receives) c
 made_may move.Withdraw p c = leave_may p (receive_of p c.receives) c
 made_may move.Drain p c = refl
@@ -305,7 +317,8 @@ made_may _ p c = refl
 
 module _ {T : Type 0} where
   -- so an answer of an allowed move finds the call parked, if it is one of these
-  pub met_by_move : (own : Call T) (p : Progress) (mv : Move) (reply_by_place : PlaceReply) → IsAllowed own p mv → may_answer mv reply_by_place ≡ true
+  pub met_by_move : (own : Call T) (p : Progress) (mv : Move) (reply_by_place : PlaceReply) → IsAllowed own p mv
+      → may_answer mv reply_by_place ≡ true
       → IsMet own reply_by_place p
   met_by_move own p move.PollSend reply.Accepted h may = h
   met_by_move own p move.WithdrawSend reply.Accepted h may = h
@@ -320,13 +333,16 @@ module _ {T : Type 0} where
   send_joins own p move.Send h may = h.1
   send_joins own p _ h may = absurd (let none : ⊥ = cc in none)
 
-  pub receive_joins : (own : Call T) (p : Progress) (mv : Move) → IsAllowed own p mv → may_answer mv reply.Parked ≡ true → is_send own ≡ false
+  pub receive_joins : (own : Call T) (p : Progress) (mv : Move) → IsAllowed own p mv → may_answer mv reply.Parked ≡ true
+      → is_send own ≡ false
   receive_joins own p (move.Recv kind) h may = h.1
   receive_joins own p _ h may = absurd (let none : ⊥ = cc in none)
 
   -- a call parks by the step that issues its ticket
-  pub parking_issues : {A : Type 0} (past : Log T A) (step : Step T) (reply_by_place : PlaceReply) (events : List (Event T A)) (n : ℕ) (queue : List ℕ)
-      (r : Reply T A) → Corresponds events n queue reply_by_place r → parks reply_by_place ≡ true → may_answer (move_for step) reply_by_place ≡ true
+  pub parking_issues : {A : Type 0} (past : Log T A) (step : Step T) (reply_by_place : PlaceReply) (events : List (Event T A)) (n : ℕ)
+      (queue : List ℕ)
+      (r : Reply T A) → Corresponds events n queue reply_by_place r → parks reply_by_place ≡ true
+      → may_answer (move_for step) reply_by_place ≡ true
       → tickets_issued (change past step r) ≡ 1
   parking_issues past (step.Send m) reply.Pending events n queue (own.Pending t) h parking may = refl
   parking_issues past (step.Recv kind) reply.Parked events n queue (own.Parked t) h parking may = refl

@@ -29,7 +29,8 @@ abbrev pub left_with : State → OpenCall → Progress → State → State
 left_with c one p left = record left { calls = calls_with_progress one.place p c.calls }
 
 module _ {T A : Type 0} (equal : T → T → Bool) (events : List (Event T A)) (c : State) (recorded : Option (Answer T A)) (one : OpenCall)
-    (own : Call T) (mv : Move) (reply_by_place : PlaceReply) (left : State) (made_is : (reply_by_place, left) ≡ outcome mv one.place c) (n : ℕ) (found : Reply T A)
+    (own : Call T) (mv : Move) (reply_by_place : PlaceReply) (left : State) (made_is : (reply_by_place, left) ≡ outcome mv one.place c)
+    (n : ℕ) (found : Reply T A)
     (corresponds : Corresponds events n c.queue reply_by_place found) (s after : Stage T A) (represents : StandsFor one.progress s)
     (after_is : after ≡ stage_after own s found) where
   told_is : Corresponds events n c.queue (outcome mv one.place c).0 found
@@ -42,7 +43,8 @@ module _ {T A : Type 0} (equal : T → T → Bool) (events : List (Event T A)) (
       → CallLeadsTo equal events c recorded one own mv false (left_with c one (progress_of after) left)
   leads right rest t other first chosen o past step reply h =
       let so : s ≡ clear_ticket h.stage =
-      represents h.stage (progress_is equal events own (first_answer t rest) (h.agrees.tickets one.place) one.progress h.stage h.progress_is)
+      represents h.stage (progress_is equal events own (first_answer t rest)
+      (h.agrees.tickets one.place) one.progress h.stage h.progress_is)
       (not_done own one.progress other mv chosen) in
       let is : after ≡ stage_after own (clear_ticket h.stage) found = after_is ∙ ap (λ (x : Stage T A). stage_after own x found) so in
       subst (λ (d : State). Agrees equal events o (Makes t step reply ∷ past) rest d)
@@ -64,7 +66,8 @@ module _ {T A : Type 0} (equal : T → T → Bool) (events : List (Event T A)) (
   pub leads_wrong : is_wrong equal own recorded after ≡ true → CallLeadsNowhere equal events c recorded one own mv false
   leads_wrong wrong rest t other first chosen o past step reply h =
       let so : s ≡ clear_ticket h.stage =
-      represents h.stage (progress_is equal events own (first_answer t rest) (h.agrees.tickets one.place) one.progress h.stage h.progress_is)
+      represents h.stage (progress_is equal events own (first_answer t rest)
+      (h.agrees.tickets one.place) one.progress h.stage h.progress_is)
       (not_done own one.progress other mv chosen) in
       let is : after ≡ stage_after own (clear_ticket h.stage) found = after_is ∙ ap (λ (x : Stage T A). stage_after own x found) so in
       move_wrong equal events (answers events) c rest t one own mv other o past step reply h chosen n found told_is

@@ -48,7 +48,8 @@ module _ {T A : Type 0} (events : List (Event T A)) (c new : State) (t : ℕ) (o
   is_parked_now p (inl h) = ap (λ (l : List OpenCall). parked_at l p) calls ∙ parked_other one.place q p c.calls h.0 ∙ h.1
   is_parked_now p (inr h) =
       ap (λ (l : List OpenCall). parked_at l p) calls
-      ∙ subst (λ (n : ℕ). parked_at (calls_with_progress one.place q c.calls) n ≡ true) (sym h.0) (parked_now events t q c.calls one is_own h.1)
+      ∙ subst (λ (n : ℕ). parked_at (calls_with_progress one.place q c.calls) n ≡ true) (sym h.0)
+      (parked_now events t q c.calls one is_own h.1)
 
   module _ (tickets : ℕ → ℕ) (next later : ℕ) (h : AreParked events tickets next c) (more : next ≤ later) where
     -- who is blocked sends, and who has an entry doesn't

@@ -1,4 +1,4 @@
--- What is done to parked receives by their places is done to entries by their tickets, where no two places
+-- What is done to parked receives by their places is done to entries by their tickets, if no two places
 -- share a ticket.
 use Rattle.std.proofs.Common.{◌≡◌, ◌==◌, ℕ, Bool, true, false, if◌then◌else◌, eqb, List, [], ◌∷◌, ◌++◌, map, Option, Some, None, refl, sym}
 use Rattle.std.proofs.Common.{◌∙◌, ap}
@@ -74,4 +74,5 @@ module _ {T A : Type 0} (events : List (Event T A)) (tickets : ℕ → ℕ) wher
       by_case : (b : Bool) → eqb r.place p ≡ b → map placed (without_place p rs) ≡ without_ticket (tickets p) (map placed rs)
           → map placed (without_place p (r ∷ rs)) ≡ without_ticket (tickets p) (map placed (r ∷ rs))
       by_case true same rest = let ticket = eqb_by_ticket p r (All-head (IsAlone p) r rs alone) ∙ same in simp (ticket, same) refl
-      by_case false other rest = let ticket = eqb_by_ticket p r (All-head (IsAlone p) r rs alone) ∙ other in simp (ticket, other) (ap (λ l. placed r ∷ l) rest)
+      by_case false other rest = let ticket = eqb_by_ticket p r (All-head (IsAlone p) r rs alone)
+          ∙ other in simp (ticket, other) (ap (λ l. placed r ∷ l) rest)

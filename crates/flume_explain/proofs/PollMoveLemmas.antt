@@ -86,7 +86,8 @@ module _ {T A : Type 0} (events : List (Event T A)) (o : Opening) (log : Log T A
         represents = leads taken.0 taken.1 _ taken.2 refl;
         mirrors = mirror_without events tickets (after_take taken.1 s) (take_leaving later c) place taken.4
             (rw same apart.from_parked);
-        blocked_after = taken_blocked (IsPlaceAfter reply.Pending (reply.Got p) place c.blocked) later c (all_left (reply.Got p) place c.blocked unblocked);
+        blocked_after = taken_blocked (IsPlaceAfter reply.Pending (reply.Got p) place c.blocked) later c
+            (all_left (reply.Got p) place c.blocked unblocked);
         receives_after = rw same
             (left_others (reply.Got p) place (places c.receives) _ (without_among place c.receives)
             (others_elsewhere events tickets s c place mirrors apart.from_parked o log h));

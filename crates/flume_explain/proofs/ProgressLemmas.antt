@@ -142,7 +142,8 @@ module _ {T A : Type 0} (equal : T → T → Bool) (events : List (Event T A)) (
 
   -- the ticket after a reply
   ticket_after : (recorded : Option (Answer T A)) (place next : ℕ) (tickets : ℕ → ℕ) (queue : List ℕ) (p : Progress) (stage : Stage T A)
-      (reply_by_place : PlaceReply) (r : Reply T A) → Corresponds events next queue reply_by_place r → IsProgress equal events call recorded (tickets place) p stage
+      (reply_by_place : PlaceReply) (r : Reply T A) → Corresponds events next queue reply_by_place r
+      → IsProgress equal events call recorded (tickets place) p stage
       → HasTicket call (tickets_after reply_by_place place next tickets place) (stage_after call stage r)
   ticket_after recorded place next tickets queue p stage reply.Full (own.Full back) h so = full_free call (tickets place) stage back
   ticket_after recorded place next tickets queue p stage reply.Pending (own.Pending t) h so = h ∙ sym (ticket_given place next tickets)
@@ -168,10 +169,13 @@ module _ {T A : Type 0} (equal : T → T → Bool) (events : List (Event T A)) (
   ticket_after recorded place next tickets queue p stage _ _ h so = tt
 
   -- so far is the call after a reply, unless its answer is wrong
-  pub progress_after : (recorded : Option (Answer T A)) (place next : ℕ) (tickets : ℕ → ℕ) (queue : List ℕ) (p : Progress) (stage : Stage T A)
-      (reply_by_place : PlaceReply) (r : Reply T A) → Corresponds events next queue reply_by_place r → IsProgress equal events call recorded (tickets place) p stage
+  pub progress_after : (recorded : Option (Answer T A)) (place next : ℕ) (tickets : ℕ → ℕ) (queue : List ℕ) (p : Progress)
+      (stage : Stage T A)
+      (reply_by_place : PlaceReply) (r : Reply T A) → Corresponds events next queue reply_by_place r
+      → IsProgress equal events call recorded (tickets place) p stage
       → is_wrong equal call recorded (stage_after call stage r) ≡ false
-      → IsProgress equal events call recorded (tickets_after reply_by_place place next tickets place) (progress_of (stage_after call stage r))
+      → IsProgress equal events call recorded (tickets_after reply_by_place place next tickets place)
+      (progress_of (stage_after call stage r))
       (stage_after call stage r)
   progress_after recorded place next tickets queue p stage reply_by_place r h so right =
       progress_right recorded (tickets_after reply_by_place place next tickets place) (stage_after call stage r)

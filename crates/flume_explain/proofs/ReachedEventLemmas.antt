@@ -33,7 +33,8 @@ module _ {T A : Type 0} where
   some_event (first ∷ all) (suc p) within = some_event all p (omega arith)
 
   -- the events up to it
-  take_event : (all : List (Event T A)) (p : ℕ) (event : Event T A) → event_at all p ≡ Some event → take (p + 1) all ≡ take p all ++ event ∷ []
+  take_event : (all : List (Event T A)) (p : ℕ) (event : Event T A) → event_at all p ≡ Some event
+      → take (p + 1) all ≡ take p all ++ event ∷ []
   take_event [] p event is = absurd (let none : ⊥ = cc in none)
   take_event (first ∷ all) zero event is = let same : first ≡ event = cc in ap (λ e. e ∷ []) same
   take_event (first ∷ all) (suc p) event is =
@@ -47,7 +48,8 @@ module _ {T A : Type 0} (equal : T → T → Bool) (events : List (Event T A)) w
   fits_begins place c t call begins none o past event agrees there =
       subst (λ e. Fits equal past (Happens e)) (sym same)
       (by (open_call past t) refl
-      (subst (λ x. IsOpenAs equal events agrees.tickets (first_answer t (drop place events)) x (open_call past t)) none (agrees.calls_are t)))
+      (subst (λ x. IsOpenAs equal events agrees.tickets (first_answer t (drop place events)) x (open_call past t)) none
+      (agrees.calls_are t)))
     where
       same : event ≡ Begins t call
       same = let k = sym there ∙ begins in let e : event ≡ Begins t call = cc in e
@@ -58,7 +60,8 @@ module _ {T A : Type 0} (equal : T → T → Bool) (events : List (Event T A)) w
       by (Some current) is h = absurd h
 
   -- what a call may return that is so far, if this is the first answer that is recorded of it
-  returns_so : (own : Call T) (recorded_answer : Answer T A) (n : ℕ) (p : Progress) (s : Stage T A) → IsProgress equal events own (Some recorded_answer) n p s
+  returns_so : (own : Call T) (recorded_answer : Answer T A) (n : ℕ) (p : Progress) (s : Stage T A)
+      → IsProgress equal events own (Some recorded_answer) n p s
       → may_end equal (Some own) p recorded_answer ≡ true → may_return equal own s recorded_answer ≡ true
   returns_so own recorded_answer n Begun stage.Begun h may = may
   returns_so own recorded_answer n Tried stage.Tried h may = may
@@ -68,12 +71,15 @@ module _ {T A : Type 0} (equal : T → T → Bool) (events : List (Event T A)) w
   returns_so own recorded_answer n _ _ h may = absurd h
 
   -- the open call of a thread may return
-  pub fits_returns : (place : ℕ) (c : State) (t : ℕ) (recorded_answer : Answer T A) (one : OpenCall) → event_at events place ≡ Some (Returns t recorded_answer)
-      → call_by events t c.calls ≡ Some one → may_end equal (call_at events one.place) one.progress recorded_answer ≡ true → EventFits equal events place c
+  pub fits_returns : (place : ℕ) (c : State) (t : ℕ) (recorded_answer : Answer T A) (one : OpenCall)
+      → event_at events place ≡ Some (Returns t recorded_answer)
+      → call_by events t c.calls ≡ Some one → may_end equal (call_at events one.place) one.progress recorded_answer ≡ true
+      → EventFits equal events place c
   fits_returns place c t recorded_answer one returns_it own may o past event agrees there =
       subst (λ e. Fits equal past (Happens e)) (sym same)
       (by (open_call past t)
-      (subst (λ x. IsOpenAs equal events agrees.tickets (first_answer t (drop place events)) x (open_call past t)) own (agrees.calls_are t)))
+      (subst (λ x. IsOpenAs equal events agrees.tickets (first_answer t (drop place events)) x (open_call past t)) own
+      (agrees.calls_are t)))
     where
       same : event ≡ Returns t recorded_answer
       same = let k = sym there ∙ returns_it in let e : event ≡ Returns t recorded_answer = cc in e
@@ -82,7 +88,8 @@ module _ {T A : Type 0} (equal : T → T → Bool) (events : List (Event T A)) w
       first = ap (first_answer t) (events_from events place (Returns t recorded_answer) returns_it)
           ∙ ap (λ b. if b then Some recorded_answer else first_answer t (drop (place + 1) events)) (eq-eqb t t refl)
 
-      by : (current : Option (Call T × Stage T A)) → IsOpenAs equal events agrees.tickets (first_answer t (drop place events)) (Some one) current
+      by : (current : Option (Call T × Stage T A)) → IsOpenAs equal events agrees.tickets (first_answer t (drop place events))
+          (Some one) current
           → IsTrue (returns equal current recorded_answer)
       by None h = absurd h
       by (Some current) h =
@@ -91,7 +98,8 @@ module _ {T A : Type 0} (equal : T → T → Bool) (events : List (Event T A)) w
           (subst (λ x. may_end equal x one.progress recorded_answer ≡ true) h.0 may)
 
   -- the next event leads on
-  pub event_reaches : (place : ℕ) (c new : State) → place < length events → EventFits equal events place c → EventLeads equal events place c new
+  pub event_reaches : (place : ℕ) (c new : State) → place < length events → EventFits equal events place c
+      → EventLeads equal events place c new
       → Reaches equal events place c (place + 1) new
   event_reaches place c new within fits leads o r =
       let at = some_event events place within in
@@ -111,11 +119,13 @@ module _ {T A : Type 0} (equal : T → T → Bool) (events : List (Event T A)) w
   reached_explained o place c within r = record { within = within; explained = (r.past, r.events_are, r.explains) }
 
   -- all events are, if it is past the last
-  pub all_explained : (o : Opening) (place : ℕ) (c : State) → length events ≤ place → IsReached equal events o place c → IsExplained equal o events
+  pub all_explained : (o : Opening) (place : ℕ) (c : State) → length events ≤ place → IsReached equal events o place c
+      → IsExplained equal o events
   all_explained o place c past r = (r.past, r.events_are ∙ take_all place events past, r.explains)
 
   -- so are those before the further one of two places
-  pub further_explained : (o : Opening) (n m : ℕ) → AreExplained equal events o n → AreExplained equal events o m → AreExplained equal events o (max n m)
+  pub further_explained : (o : Opening) (n m : ℕ) → AreExplained equal events o n → AreExplained equal events o m
+      → AreExplained equal events o (max n m)
   further_explained o n m one other = by (leb n m) refl
     where
       by : (b : Bool) → leb n m ≡ b → AreExplained equal events o (max n m)

@@ -117,7 +117,8 @@ module _ {T : Type 0} where
 
 module _ {T A : Type 0} (equal : T → T → Bool) (events : List (Event T A)) where
   -- a call that isn't parked, and has no answer, may still take a ticket
-  may_take : (own : Call T) (recorded : Option (Answer T A)) (n : ℕ) (p : Progress) (s : Stage T A) → IsProgress equal events own recorded n p s
+  may_take : (own : Call T) (recorded : Option (Answer T A)) (n : ℕ) (p : Progress) (s : Stage T A)
+      → IsProgress equal events own recorded n p s
       → is_parked p ≡ false → (p ≡ progress.Done → ⊥) → to_take s ≡ 1
   may_take own recorded n progress.Begun stage.Begun h off more = refl
   may_take own recorded n progress.Tried stage.Tried h off more = refl
@@ -127,7 +128,8 @@ module _ {T A : Type 0} (equal : T → T → Bool) (events : List (Event T A)) w
   may_take own recorded n _ _ h off more = absurd h
 
   -- the open call of its thread, at its stage
-  pub record IsOpenCall (past : List (Item T A)) (t : ℕ) (own : Call T) (recorded : Option (Answer T A)) (ticket : ℕ) (p : Progress) : Type 0 where
+  pub record IsOpenCall (past : List (Item T A)) (t : ℕ) (own : Call T) (recorded : Option (Answer T A)) (ticket : ℕ)
+      (p : Progress) : Type 0 where
     pub stage : Stage T A
     pub is_open : open_call past t ≡ Some (own, stage)
     pub progress_is : IsProgress equal events own recorded ticket p stage
@@ -151,7 +153,8 @@ module _ {T A : Type 0} (equal : T → T → Bool) (events : List (Event T A)) w
     opened = by (open_call r.past t) refl
         (subst (λ x. IsOpenAs equal events r.agrees.tickets (first_answer t rest) x (open_call r.past t)) mine.2 (r.agrees.calls_are t))
       where
-        by : (current : Option (Call T × Stage T A)) → open_call r.past t ≡ current → IsOpenAs equal events r.agrees.tickets (first_answer t rest) (Some one) current
+        by : (current : Option (Call T × Stage T A)) → open_call r.past t ≡ current
+            → IsOpenAs equal events r.agrees.tickets (first_answer t rest) (Some one) current
             → IsOpenCall r.past t own (first_answer t rest) ticket one.progress
         by None is h = absurd h
         by (Some current) is h =
@@ -217,7 +220,8 @@ module _ {T A : Type 0} (equal : T → T → Bool) (events : List (Event T A)) w
     left : is_parked one.progress ≡ false → next_ticket o (steps_in r.past) < most
     left off =
         let one_more : to_park (open_call r.past t) ≡ 1 = ap to_park opened.is_open
-        ∙ may_take own (first_answer t rest) ticket one.progress opened.stage opened.progress_is off (not_done own one.progress other mv chosen) in
+        ∙ may_take own (first_answer t rest) ticket one.progress opened.stage opened.progress_is off
+        (not_done own one.progress other mv chosen) in
         let so = ticket_left equal o r.past r.explains.calls r.explains.run t one_more in
         let many = events_many in
         let first = r.first_is in
@@ -240,7 +244,8 @@ module _ {T A : Type 0} (equal : T → T → Bool) (events : List (Event T A)) w
       may_be_given (step.Send m) is = left (may_so (step.Send m) is).0
       may_be_given (step.Recv kind) is = left (may_so (step.Recv kind) is).0
       may_be_given step.Drain is =
-          listed found (subst (λ m. Corresponds events n c.queue (outcome m one.place c).0 found) (sym (step_move own ticket mv step.Drain is)) corresponds)
+          listed found (subst (λ m. Corresponds events n c.queue (outcome m one.place c).0 found)
+          (sym (step_move own ticket mv step.Drain is)) corresponds)
       may_be_given _ is = tt
 
       move_on : (new : State) → first_answer t rest ≡ recorded → CallLeadsTo equal events c recorded one own mv false new
@@ -278,12 +283,15 @@ module _ {T A : Type 0} (equal : T → T → Bool) (events : List (Event T A)) w
         (is_made true (NoMemory (handed_in made_step.0)) refl lawful))
 
   -- a move that isn't refused, with a reply that is alike by places
-  pub move_reaches : (place : ℕ) (c : State) (recorded : Option (Answer T A)) (one : OpenCall) (own : Call T) (mv : Move) (n : ℕ) (found : Reply T A)
-      (new : State) → Corresponds events n c.queue (outcome mv one.place c).0 found → CallLeadsTo equal events c recorded one own mv false new
+  pub move_reaches : (place : ℕ) (c : State) (recorded : Option (Answer T A)) (one : OpenCall) (own : Call T) (mv : Move) (n : ℕ)
+      (found : Reply T A)
+      (new : State) → Corresponds events n c.queue (outcome mv one.place c).0 found
+      → CallLeadsTo equal events c recorded one own mv false new
       → MoveReaches equal events place c recorded one own mv new
   move_reaches place c recorded one own mv n found new corresponds leads other call_is chosen within has first o r =
       let own_thread = mine place c recorded one own mv other call_is chosen within has o r in
-      move_on place c recorded one own mv other call_is chosen within has o r n found corresponds new (first own_thread.0 own_thread.1) leads
+      move_on place c recorded one own mv other call_is chosen within has o r n found corresponds new
+      (first own_thread.0 own_thread.1) leads
 
   -- a refused one
   pub refusal_reaches : (place : ℕ) (c : State) (recorded : Option (Answer T A)) (one : OpenCall) (own : Call T) (mv : Move) (new : State)

@@ -90,7 +90,7 @@ module _ {T A : Type 0} (events : List (Event T A)) (o : Opening) (log : Log T A
           got TryRecv p later front
           (λ m rest after at is. takes o log _ s after m None rest h (front_line o log s m rest h at) refl at is)
 
-  -- a ticket is left where a receive may be parked
+  -- a ticket is left if a receive may be parked
   some_left : (kind : Kind) (given : Reply T A) → IsReply (channel o log) (Recv kind) given → is_refusal given ≡ false
       → messages (line log) ≡ [] → IsOpen (senders log) (receivers log) → next_ticket o log < most
   some_left kind (own.Got m) lawful granted empty open_ =
@@ -154,5 +154,6 @@ module _ {T A : Type 0} (events : List (Event T A)) where
   pub answers_recv : (kind : Kind) → MoveAnswers events (move.Recv kind)
   answers_recv kind o log s c tickets place call step given h mirrors at is ready lawful granted =
       let step_is : Recv kind ≡ step = cc in
-      subst (λ x. Answers events o log tickets s c place x (outcome (move.Recv kind) place c).0 (outcome (move.Recv kind) place c).1) step_is
+      subst (λ x. Answers events o log tickets s c place x (outcome (move.Recv kind) place c).0 (outcome (move.Recv kind) place c).1)
+      step_is
       (receives events o log s c tickets place h mirrors ready kind given (rw (← step_is) at lawful) granted)

@@ -45,13 +45,15 @@ module _ {T A : Type 0} (equal : T → T → Bool) (events : List (Event T A)) (
       is_for : move_for step ≡ mv
       is_for = step_move own (tickets one.place) mv step outcome.step_is
 
-      knows : (x : Step T) → step_for own (tickets one.place) mv ≡ Some x → move_for x ≡ mv → KnowsPlace events o (steps_in past) outcome.agrees.state c tickets
+      knows : (x : Step T) → step_for own (tickets one.place) mv ≡ Some x → move_for x ≡ mv
+          → KnowsPlace events o (steps_in past) outcome.agrees.state c tickets
           one.place outcome.agrees.represents outcome.agrees.channel x
       knows (Poll n) is polls =
           let asks : ◌≡◌ {A = Option (Step T)} (Some (Poll (tickets one.place))) (Some (Poll n)) =
           subst (λ m. step_for own (tickets one.place) m ≡ Some (Poll n)) (sym polls) is in
           let same : n ≡ tickets one.place = cc in
-          let allowed_so : IsAllowed own one.progress move.Poll = subst (IsAllowed own one.progress) (sym polls) (allowed own one.progress other mv chosen) in
+          let allowed_so : IsAllowed own one.progress move.Poll = subst (IsAllowed own one.progress) (sym polls)
+          (allowed own one.progress other mv chosen) in
           let parked_so = allowed_so.0 in (
             same,
             (ready equal events c t one own move.Poll tickets outcome.agrees.state.next outcome.agrees.threads_apart outcome.call_is
@@ -61,7 +63,8 @@ module _ {T A : Type 0} (equal : T → T → Bool) (events : List (Event T A)) (
 
       may : may_be_refused mv one.place c ≡ true
       may = subst (λ m. may_be_refused m one.place c ≡ true) is_for
-          (refused_here events o (steps_in past) outcome.agrees.state c tickets one.place outcome.agrees.represents outcome.agrees.channel step reply outcome.refused_is
+          (refused_here events o (steps_in past) outcome.agrees.state c tickets one.place outcome.agrees.represents outcome.agrees.channel
+          step reply outcome.refused_is
           outcome.lawful (knows step outcome.step_is is_for))
 
   module _ (s after : Stage T A) (represents : StandsFor one.progress s) (after_is : after ≡ stage_after own s (NoMemory None)) where
@@ -69,10 +72,13 @@ module _ {T A : Type 0} (equal : T → T → Bool) (events : List (Event T A)) (
         → CallLeadsTo equal events c recorded one own mv true (with_progress one.place (progress_of after) c)
     refusal_leads right rest t other first chosen o past step reply outcome =
         let so : s ≡ clear_ticket outcome.stage =
-        represents outcome.stage (progress_is equal events own (first_answer t rest) (outcome.agrees.tickets one.place) one.progress outcome.stage
+        represents outcome.stage (progress_is equal events own (first_answer t rest)
+        (outcome.agrees.tickets one.place) one.progress outcome.stage
         outcome.progress_is) (not_done own one.progress other mv chosen) in
-        let is : after ≡ stage_after own (clear_ticket outcome.stage) (NoMemory None) = after_is ∙ ap (λ (x : Stage T A). stage_after own x (NoMemory None)) so in
-        subst (λ (x : Stage T A). Agrees equal events o (Makes t step reply ∷ past) rest (with_progress one.place (progress_of x) c)) (sym is)
+        let is : after ≡ stage_after own (clear_ticket outcome.stage) (NoMemory None) = after_is
+        ∙ ap (λ (x : Stage T A). stage_after own x (NoMemory None)) so in
+        subst (λ (x : Stage T A). Agrees equal events o (Makes t step reply ∷ past) rest (with_progress one.place (progress_of x) c))
+        (sym is)
         (refused_agrees equal events c rest t one own mv other o past step reply outcome chosen
         (subst (λ (x : Stage T A). is_wrong equal own (first_answer t rest) x ≡ false) is
         (ap (λ (r : Option (Answer T A)). is_wrong equal own r after) first ∙ right)))
@@ -90,9 +96,11 @@ module _ {T A : Type 0} (equal : T → T → Bool) (events : List (Event T A)) (
     pub refusal_wrong : is_wrong equal own recorded after ≡ true → CallLeadsNowhere equal events c recorded one own mv true
     refusal_wrong wrong rest t other first chosen o past step reply outcome =
         let so : s ≡ clear_ticket outcome.stage =
-        represents outcome.stage (progress_is equal events own (first_answer t rest) (outcome.agrees.tickets one.place) one.progress outcome.stage
+        represents outcome.stage (progress_is equal events own (first_answer t rest)
+        (outcome.agrees.tickets one.place) one.progress outcome.stage
         outcome.progress_is) (not_done own one.progress other mv chosen) in
-        let is : after ≡ stage_after own (clear_ticket outcome.stage) (NoMemory None) = after_is ∙ ap (λ (x : Stage T A). stage_after own x (NoMemory None)) so in
+        let is : after ≡ stage_after own (clear_ticket outcome.stage) (NoMemory None) = after_is
+        ∙ ap (λ (x : Stage T A). stage_after own x (NoMemory None)) so in
         refused_wrong equal events c rest t one own mv other o past step reply outcome chosen
         (subst (λ (x : Stage T A). is_wrong equal own (first_answer t rest) x ≡ true) is
         (ap (λ (r : Option (Answer T A)). is_wrong equal own r after) first ∙ wrong))

@@ -94,7 +94,8 @@ module _ {T A : Type 0} (events : List (Event T A)) (o : Opening) (log : Log T A
       let blocked : s.blocked ≡ [] = empty_by s.blocked none in
       rw (queue, blocked) refl
 
-  looks_so : (k : Kind) (st : Status) (m : Mark T) → mark_of events st ≡ some_mark m → looks k st ≡ true → only_leaves (Some (status_by k m)) ≡ true
+  looks_so : (k : Kind) (st : Status) (m : Mark T) → mark_of events st ≡ some_mark m → looks k st ≡ true
+      → only_leaves (Some (status_by k m)) ≡ true
   looks_so k (Filled p) m is on = absurd (false≢true on)
   looks_so Block Waiting m is on = absurd (false≢true on)
   looks_so Block Woken m is on = absurd (false≢true on)
@@ -141,7 +142,8 @@ module _ {T A : Type 0} (events : List (Event T A)) (o : Opening) (log : Log T A
       receive_so kind knows (length s.blocked) refl (one_of (some_blocked c) (not (some_queued c) && not (closed_now c)) may)
   may_want (step.Poll t) may knows =
       let two = both (some_blocked c) (is_looking (receive_of place c.receives)) may in (
-        subst (λ n. only_leaves (receiver_status n s.entries) ≡ true) (sym knows.0) (looking (receive_of place c.receives) refl two.1 knows.1),
+        subst (λ n. only_leaves (receiver_status n s.entries) ≡ true) (sym knows.0)
+            (looking (receive_of place c.receives) refl two.1 knows.1),
         blocked_so two.0,
       )
   may_want step.Drain may knows = queued_so may

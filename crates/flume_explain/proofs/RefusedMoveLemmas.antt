@@ -206,7 +206,8 @@ module _ {T A : Type 0} (events : List (Event T A)) (o : Opening) (log : Log T A
   refused_here step.TryRecv (NoMemory back) e lawful knows = blocked_here lawful.0
   refused_here (step.Recv kind) (NoMemory back) e lawful knows = by lawful.0
     where
-      by : (boundary o log < length (messages (line log))) ⊎ ((messages (line log) ≡ []) × IsOpen (senders log) (receivers log) × (next_ticket o log < most))
+      by : (boundary o log < length (messages (line log))) ⊎ ((messages (line log) ≡ []) × IsOpen (senders log) (receivers log)
+          × (next_ticket o log < most))
           → (some_blocked c || (not (some_queued c) && not (closed_now c))) ≡ true
       by (inl more) = first (some_blocked c) (not (some_queued c) && not (closed_now c)) (blocked_here more)
       by (inr parks) = second (some_blocked c) (not (some_queued c) && not (closed_now c))

@@ -31,7 +31,8 @@ module _ {T : Type 0} where
   some_woken (Filled x) = refl
 
   -- a wake round
-  pub some_round : (x : T) (es : List (LogEntry T)) → map some_entry (round same_notice x es) ≡ round same_notice (Some x) (map some_entry es)
+  pub some_round : (x : T) (es : List (LogEntry T)) → map some_entry (round same_notice x es) ≡ round same_notice (Some x)
+      (map some_entry es)
   some_round x [] = refl
   some_round x (e ∷ es) = step e.mark e.kind e.ticket (some_round x es)
     where
@@ -99,7 +100,8 @@ module _ {T : Type 0} where
   pub some_again : (t : ℕ) (es : List (LogEntry T)) → map some_entry (again t es) ≡ again t (map some_entry es)
   some_again t es = go (entry_of t es) ∙ ap (λ found. again_as t found (map some_entry es)) (sym (some_entry_of t es))
     where
-      go : (found : Option (LogEntry T)) → map some_entry (again_as t found es) ≡ again_as t (option_map some_entry found) (map some_entry es)
+      go : (found : Option (LogEntry T)) → map some_entry (again_as t found es) ≡ again_as t (option_map some_entry found)
+          (map some_entry es)
       go None = refl
       go (Some e) = step e.mark e.kind e.ticket
         where

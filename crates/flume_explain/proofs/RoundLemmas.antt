@@ -1,4 +1,4 @@
--- Where a wake round ends at a receive, those behind it stay as they are.
+-- If a wake round ends at a receive, those behind it stay as they are.
 use Rattle.std.proofs.Common.{◌≡◌, ℕ, ◌<◌, ◌++◌, Bool, true, false, List, [], ◌∷◌, length, take, drop, refl, sym, ◌∙◌, ap}
 use Rattle.std.proofs.Common.{set, suc, ◌⊎◌, inl, inr}
 use Rattle.flume_model.specs.declared.step.Kind.TheVariants.{Block, Plain, Arm}

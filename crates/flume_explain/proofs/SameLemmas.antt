@@ -17,7 +17,8 @@ use Rattle.flume_explain.specs.contracts.configuration.ProgressPartialEq.TheImpl
 use Rattle.flume_explain.specs.contracts.configuration.StatusPartialEq.TheImpl as standings
 
 -- lists are the same if each element is the one in its place
-pub same_lists : {X : Type 0} (E : X → X → Bool) → ((x y : X) → E x y ≡ true → x ≡ y) → (xs ys : List X) → pointwise E xs ys ≡ true → xs ≡ ys
+pub same_lists : {X : Type 0} (E : X → X → Bool) → ((x y : X) → E x y ≡ true → x ≡ y) → (xs ys : List X) → pointwise E xs ys ≡ true
+    → xs ≡ ys
 same_lists E same [] [] is = refl
 same_lists E same [] (y ∷ ys) is = absurd (false≢true is)
 same_lists E same (x ∷ xs) [] is = absurd (false≢true is)

@@ -14,7 +14,8 @@ module _ {T A : Type 0} (equal : T → T → Bool) (events : List (Event T A)) (
   IsFrame f = IsReached equal events o f.place f.configuration
 
   -- the frame that is taken off, and the others
-  pub taken_off : (all frames : List (Frame A)) (frame : Frame A) → all ≡ frames ++ frame ∷ [] → All IsFrame all → All IsFrame frames × IsFrame frame
+  pub taken_off : (all frames : List (Frame A)) (frame : Frame A) → all ≡ frames ++ frame ∷ [] → All IsFrame all → All IsFrame frames
+      × IsFrame frame
   taken_off all frames frame is reached = All-pop IsFrame all frames (Some frame) is reached
 
   -- it stands again, with other choices

@@ -193,5 +193,6 @@ module _ {T A : Type 0} (events : List (Event T A)) where
   pub answers_withdraw_send : MoveAnswers events move.WithdrawSend
   answers_withdraw_send o log s c tickets place call made_step given h corresponds is_call is_step ready lawful memory =
       let same : made_step ≡ step.WithdrawSend (tickets place) = cc in
-      subst (λ x. Answers events o log tickets s c place x (outcome move.WithdrawSend place c).0 (outcome move.WithdrawSend place c).1) (sym same)
+      subst (λ x. Answers events o log tickets s c place x (outcome move.WithdrawSend place c).0 (outcome move.WithdrawSend place c).1)
+      (sym same)
       (withdraw_send_answers events o log s c tickets place h corresponds ready)

@@ -25,10 +25,11 @@ use Rattle.flume_core.proofs.InvariantLemmas.{still}
 use Rattle.flume_core.proofs.MoveLemmas.{queues, blocks}
 use Rattle.flume_core.proofs.ViewLemmas.{closed_at_log, room_or_full}
 use Rattle.flume_concurrent.specs.declared.event.Event.{Event}
+use Rattle.flume_concurrent.specs.Calls.{message_of}
 use Rattle.flume_explain.specs.declared.place_reply.PlaceReply.{PlaceReply}
 use Rattle.flume_explain.specs.declared.place_reply.PlaceReply.TheVariants as reply
 use Rattle.flume_explain.specs.declared.step_of.Move.TheVariants as move
-use Rattle.flume_explain.specs.Configurations.{State, message_at, message_of}
+use Rattle.flume_explain.specs.Configurations.{State, message_at}
 use Rattle.flume_explain.specs.ByPlaces.{closed_now, full_now, some_waits, join}
 use Rattle.flume_explain.specs.Outcomes.{outcome, offer_outcome}
 use Rattle.flume_explain.specs.Mirrors.{Mirrors, offer_for, some_offer, Corresponds}
@@ -107,14 +108,16 @@ module _ {T A : Type 0} (events : List (Event T A)) (o : Opening) (log : Log T A
   IsAnswered step a = Answers events o log tickets s c place step a.0 a.1
 
   -- nothing changes
-  pub answers_unchanged : (step : Step T) (reply_by_place : PlaceReply) (back : Reply T A) → parks reply_by_place ≡ false → Corresponds events s.next c.queue reply_by_place back
+  pub answers_unchanged : (step : Step T) (reply_by_place : PlaceReply) (back : Reply T A) → parks reply_by_place ≡ false
+      → Corresponds events s.next c.queue reply_by_place back
       → IsReply (channel o log) step back → change log step back ≡ Stays → IsAnswered step (reply_by_place, c)
   answers_unchanged step reply_by_place back none alike_ lawful stays = record {
     reply = back;
     corresponds = alike_;
     state = s;
     represents = still o log (step, back) s s h lawful stays refl;
-    mirrors = subst (λ ts. Mirrors events ts s c) (sym (cond-false (parks reply_by_place) (with_ticket place s.next tickets) tickets none)) corresponds;
+    mirrors = subst (λ ts. Mirrors events ts s c)
+        (sym (cond-false (parks reply_by_place) (with_ticket place s.next tickets) tickets none)) corresponds;
     blocked_after = all_left reply_by_place place c.blocked new.not_blocked;
     receives_after = all_left reply_by_place place (map (λ r. r.place) c.receives) (none_of place c.receives new.not_parked);
   }
@@ -128,7 +131,8 @@ module _ {T A : Type 0} (events : List (Event T A)) (o : Opening) (log : Log T A
       → ((filled : Option ℕ) → change log step (own.Sent filled) ≡ Queues m filled)
       → IsAnswered step (offer_outcome no_room place c)
   offered_answers step m no_room sent shut none_in lawful changes =
-      cond_both (closed_now c) _ _ (IsAnswered step) (λ closed. shut (closed_if _ _ (sym (closed_same events tickets s c corresponds) ∙ closed)))
+      cond_both (closed_now c) _ _ (IsAnswered step) (λ closed. shut (closed_if _ _ (sym (closed_same events tickets s c corresponds)
+      ∙ closed)))
       (λ open_. cond_both (not (some_waits c.receives) && full_now c) _ _ (IsAnswered step)
       (λ full. none_in (no_room_now (open_now open_) (and_parts _ _ full)))
       (λ room. joins (open_now open_) (and_cases _ _ room)))
@@ -150,7 +154,8 @@ module _ {T A : Type 0} (events : List (Event T A)) (o : Opening) (log : Log T A
             reply = own.Sent filled;
             corresponds = tt;
             state = after_wake_round (record s { queue = s.queue ++ m ∷ [] });
-            represents = queues o log (step, own.Sent filled) s (after_wake_round (record s { queue = s.queue ++ m ∷ [] })) m filled s.space h
+            represents = queues o log (step, own.Sent filled) s (after_wake_round (record s { queue = s.queue ++ m ∷ [] })) m filled
+                s.space h
                 (lawful filled (takes_in h open_ (has_room room)) fills) (changes filled) refl refl;
             mirrors = mirror_wake events tickets (record s { queue = s.queue ++ m ∷ [] }) (record c { queue = c.queue ++ place ∷ [] })
                 (mirror_push events tickets s c place m corresponds sent);

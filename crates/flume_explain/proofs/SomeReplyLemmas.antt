@@ -148,7 +148,8 @@ module _ {T A : Type 0} where
 module _ {T : Type 0} where
   -- the offer with a ticket, and those around it
   abbrev Blocked : ℕ → List (Offer T) → Type 0
-  Blocked t xs = (m : T) × (before : List (Offer T)) × (after : List (Offer T)) × (xs ≡ before ++ record { message = m; ticket = Some t } ∷ after)
+  Blocked t xs = (m : T) × (before : List (Offer T)) × (after : List (Offer T))
+      × (xs ≡ before ++ record { message = m; ticket = Some t } ∷ after)
 
   find_blocked : (t : ℕ) (xs : List (Offer T)) → has_ticket t xs ≡ true → Blocked t xs
   find_blocked t [] has = absurd (let none : ⊥ = cc in none)
@@ -157,7 +158,8 @@ module _ {T : Type 0} where
       after_reply : Blocked t xs → Blocked t (x ∷ xs)
       after_reply found = (found.0, x ∷ found.1, found.2, ap (λ l. x ∷ l) found.3)
 
-      own : (u : ℕ) → x.ticket ≡ Some u → (b : Bool) → (u == t) ≡ b → (b || has_ticket t xs) ≡ true → (has_ticket t xs ≡ true → Blocked t xs)
+      own : (u : ℕ) → x.ticket ≡ Some u → (b : Bool) → (u == t) ≡ b → (b || has_ticket t xs) ≡ true
+          → (has_ticket t xs ≡ true → Blocked t xs)
           → Blocked t (x ∷ xs)
       own u at true same on rest = (
         x.message,
@@ -167,7 +169,8 @@ module _ {T : Type 0} where
       )
       own u at false same on rest = after_reply (rest on)
 
-      by : (ticket : Option ℕ) → x.ticket ≡ ticket → (is_ticket t ticket || has_ticket t xs) ≡ true → (has_ticket t xs ≡ true → Blocked t xs)
+      by : (ticket : Option ℕ) → x.ticket ≡ ticket → (is_ticket t ticket || has_ticket t xs) ≡ true
+          → (has_ticket t xs ≡ true → Blocked t xs)
           → Blocked t (x ∷ xs)
       by None at on rest = after_reply (rest on)
       by (Some u) at on rest = own u at (u == t) refl on rest
@@ -180,7 +183,8 @@ module _ {T : Type 0} (c : Channel T) where
   offered : Offered
   offered = go (closed_or_open c.senders c.receivers)
     where
-      room : IsOpen c.senders c.receivers → (b : Bool) → some_wait c.entries ≡ b → IsAtCapacity c.capacity c.boundary ⊎ HasRoom c.capacity c.boundary → Offered
+      room : IsOpen c.senders c.receivers → (b : Bool) → some_wait c.entries ≡ b → IsAtCapacity c.capacity c.boundary
+          ⊎ HasRoom c.capacity c.boundary → Offered
       room open_ true waits k = inr (inl (open_, λ none. absurd (let no_one : ⊥ = cc in no_one)))
       room open_ false waits (inl full) = inr (inr (open_, waits, full))
       room open_ false waits (inr has) = inr (inl (open_, λ none. has))
@@ -229,7 +233,8 @@ module _ {T A : Type 0} (c : Channel T) where
       let found = find_blocked t c.blocked h in
       (reply.Returned found.0 (is_closed c.senders c.receivers), ((on, found.1, found.2, found.3), refl), refl)
 
-  tried_receive : (xs : List T) → c.line ≡ xs → IsClosed c.senders c.receivers ⊎ IsOpen c.senders c.receivers → Replied (λ r. IsReply c step.TryRecv r)
+  tried_receive : (xs : List T) → c.line ≡ xs → IsClosed c.senders c.receivers ⊎ IsOpen c.senders c.receivers
+      → Replied (λ r. IsReply c step.TryRecv r)
   tried_receive (m ∷ rest) is open_ = (reply.Got m, (rest, is), refl)
   tried_receive [] is (inl closed) = (reply.Ended, (is, closed), refl)
   tried_receive [] is (inr open_) = (reply.Empty, (is, open_), refl)
@@ -247,7 +252,8 @@ module _ {T A : Type 0} (c : Channel T) where
     woken [] at = (reply.Ended, at, refl)
 
     looked : (kind : Kind) (m : Mark T) → ((r : Reply T A) → IsPolledMark c Plain mark.Waiting r → IsPolledMark c kind m r)
-        → (ys : List T) → c.line ≡ ys → IsClosed c.senders c.receivers ⊎ IsOpen c.senders c.receivers → Replied (λ r. IsPolledMark c kind m r)
+        → (ys : List T) → c.line ≡ ys → IsClosed c.senders c.receivers ⊎ IsOpen c.senders c.receivers
+        → Replied (λ r. IsPolledMark c kind m r)
     looked kind m so (x ∷ rest) at k = (reply.Got x, so (reply.Got x) (rest, at), refl)
     looked kind m so [] at (inl closed) = (reply.Ended, so reply.Ended (at, closed), refl)
     looked kind m so [] at (inr open_) = (reply.Waiting, so reply.Waiting (at, open_), refl)
@@ -297,7 +303,12 @@ module _ {T A : Type 0} (c : Channel T) where
         by : (a : Bool) → (n == 0) ≡ a → (b : Bool) → (n == most) ≡ b → Replied (λ r. IsReply c step.CloneSender r)
         by true none b k = (reply.NoEnd, is ∙ eqb-true n 0 none, refl)
         by false some true full = (reply.CountFull, is ∙ eqb-true n most full, refl)
-        by false some false k = (reply.Done, (let a = eqb-false n 0 some in let b = eqb-false n most k in (omega (arith, a), omega (arith, b))), refl)
+        by false some false k = (
+          reply.Done,
+          (let a = eqb-false n 0 some in let b = eqb-false n most k in
+              (omega (arith, a), omega (arith, b))),
+          refl,
+        )
 
     more_receivers : c.receivers ≡ n → Replied (λ r. IsReply c step.CloneReceiver r)
     more_receivers is = by (n == 0) refl (n == most) refl
@@ -305,7 +316,12 @@ module _ {T A : Type 0} (c : Channel T) where
         by : (a : Bool) → (n == 0) ≡ a → (b : Bool) → (n == most) ≡ b → Replied (λ r. IsReply c step.CloneReceiver r)
         by true none b k = (reply.NoEnd, is ∙ eqb-true n 0 none, refl)
         by false some true full = (reply.CountFull, is ∙ eqb-true n most full, refl)
-        by false some false k = (reply.Done, (let a = eqb-false n 0 some in let b = eqb-false n most k in (omega (arith, a), omega (arith, b))), refl)
+        by false some false k = (
+          reply.Done,
+          (let a = eqb-false n 0 some in let b = eqb-false n most k in
+              (omega (arith, a), omega (arith, b))),
+          refl,
+        )
 
   fewer_senders : (n : ℕ) → c.senders ≡ n → Replied (λ r. IsReply c step.DropSender r)
   fewer_senders zero is = (reply.NoEnd, is, refl)

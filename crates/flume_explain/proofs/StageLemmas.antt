@@ -94,7 +94,8 @@ module _ {T A : Type 0} (events : List (Event T A)) (call : Call T) where
   Leads reply_by_place stage r s = clear_ticket (stage_after call stage r) ≡ clear_ticket (stage_after call (clear_ticket stage) s)
 
   pub alike_leads : (n m : ℕ) (queue : List ℕ) (reply_by_place : PlaceReply) (r s : Reply T A) → Corresponds events n queue reply_by_place r
-      → Corresponds events m queue reply_by_place s → (stage : Stage T A) → IsMet call reply_by_place (progress_of stage) → Leads reply_by_place stage r s
+      → Corresponds events m queue reply_by_place s → (stage : Stage T A) → IsMet call reply_by_place (progress_of stage)
+      → Leads reply_by_place stage r s
   alike_leads n m queue reply.Sent (own.Sent a) (own.Sent b) h k stage met = refl
   alike_leads n m queue reply.Sent (own.Sent a) _ h k stage met = absurd k
   alike_leads n m queue reply.Full (own.Full a) (own.Full b) h k stage met = ap clear_ticket (full call a b stage (clear_ticket stage))
@@ -153,7 +154,8 @@ module _ {T A : Type 0} (events : List (Event T A)) (call : Call T) where
   alike_leads n m queue (reply.Number x) (own.Number a) _ h k stage met = absurd k
   alike_leads n m queue (reply.Truth x) (own.Truth a) (own.Truth b) h k stage met = ap (λ x. Answered (answer.Truth x)) (sym h ∙ k)
   alike_leads n m queue (reply.Truth x) (own.Truth a) _ h k stage met = absurd k
-  alike_leads n m queue (reply.Capacity x) (own.Capacity a) (own.Capacity b) h k stage met = ap (λ x. Answered (answer.Capacity x)) (sym h ∙ k)
+  alike_leads n m queue (reply.Capacity x) (own.Capacity a) (own.Capacity b) h k stage met = ap (λ x. Answered (answer.Capacity x)) (sym h
+      ∙ k)
   alike_leads n m queue (reply.Capacity x) (own.Capacity a) _ h k stage met = absurd k
   alike_leads n m queue reply.Unbounded own.Unbounded own.Unbounded h k stage met = refl
   alike_leads n m queue reply.Unbounded own.Unbounded _ h k stage met = absurd k

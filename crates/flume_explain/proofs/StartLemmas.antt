@@ -37,7 +37,8 @@ module _ {T A : Type 0} where
   onto_reverse : (items past : List (Item T A)) → reverse items ++ past ≡ onto items past
   onto_reverse [] past = refl
   onto_reverse (item ∷ items) past =
-      ap (λ l. l ++ past) (reverse-append (item ∷ []) items) ∙ append_assoc (reverse items) (item ∷ []) past ∙ onto_reverse items (item ∷ past)
+      ap (λ l. l ++ past) (reverse-append (item ∷ []) items) ∙ append_assoc (reverse items) (item ∷ []) past
+      ∙ onto_reverse items (item ∷ past)
 
 module _ {T A : Type 0} (equal : T → T → Bool) (events : List (Event T A)) where
   -- the start agrees with no items
@@ -77,7 +78,8 @@ module _ {T A : Type 0} (equal : T → T → Bool) (events : List (Event T A)) w
   }
 
   -- if it is dead, the events have no explanation
-  pub unexplained : (capacity : Option ℕ) (first : ℕ) → IsDead equal events 0 (start_of capacity) → IsExplained equal (opens capacity first) events → ⊥
+  pub unexplained : (capacity : Option ℕ) (first : ℕ) → IsDead equal events 0 (start_of capacity)
+      → IsExplained equal (opens capacity first) events → ⊥
   unexplained capacity first gone explained =
       let late = explained_late equal (opens capacity first) events explained in
       gone (opens capacity first) [] late.0 (start_agrees capacity first) (record {

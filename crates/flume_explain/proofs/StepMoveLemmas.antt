@@ -53,7 +53,8 @@ module _ {T A : Type 0} (equal : T → T → Bool) (events : List (Event T A)) w
   next_so own recorded ticket progress.Begun stage.Begun h = first_so own ticket
   next_so own recorded ticket progress.Tried stage.Tried h = parking_so own ticket
   next_so own recorded ticket progress.Parked (stage.Parked t) h =
-      subst (λ (u : ℕ). Some (if is_send own then step.PollSend u else step.Poll u) ≡ step_by own ticket (next_move own progress.Parked)) (sym h)
+      subst (λ (u : ℕ). Some (if is_send own then step.PollSend u else step.Poll u) ≡ step_by own ticket (next_move own progress.Parked))
+      (sym h)
       (asking_so own ticket (is_send own))
   next_so own recorded ticket progress.Refused (stage.Refused t) h = ap (λ u. Some (step.Withdraw u)) h.0
   next_so own recorded ticket progress.Done (stage.Answered a) h = refl
@@ -89,7 +90,8 @@ module _ {T A : Type 0} (equal : T → T → Bool) (events : List (Event T A)) w
 
   pub found : (c : State) (rest : List (Event T A)) (t : ℕ) (one : OpenCall) (other refused : Bool) (o : Opening)
       (past : List (Item T A)) (step : Step T) (reply : Reply T A) (u : ℕ) → Contains c.calls one → thread_at events one.place ≡ Some t
-      → Agrees equal events o past rest c → IsMove past t other refused (Makes u step reply) → IsRun o (steps_in (Makes u step reply ∷ past))
+      → Agrees equal events o past rest c → IsMove past t other refused (Makes u step reply)
+      → IsRun o (steps_in (Makes u step reply ∷ past))
       → IsFound c rest t one other refused o past step reply
   found c rest t one other refused o past step reply u has there agrees moved run =
       by_call (open_call past t) refl (subst (λ x. IsOpenAs equal events agrees.tickets (first_answer t rest) x (open_call past t)) is_own

@@ -57,7 +57,8 @@ use Rattle.flume_explain.proofs.AnsweringLemmas.{same_alike, had_memory, not_ref
 use Rattle.flume_explain.proofs.AnsweringLemmas.{waits_on, ready}
 
 -- the open calls say nothing of the channel
-pub mirrors_calls : {T A : Type 0} (events : List (Event T A)) (tickets : ℕ → ℕ) (s : Channel T (Unit {0})) (c : State) (calls : List OpenCall)
+pub mirrors_calls : {T A : Type 0} (events : List (Event T A)) (tickets : ℕ → ℕ) (s : Channel T (Unit {0})) (c : State)
+    (calls : List OpenCall)
     → Mirrors events tickets s c → Mirrors events tickets s (record c { calls = calls })
 mirrors_calls events tickets s c calls h =
     record {
@@ -70,7 +71,8 @@ mirrors_calls events tickets s c calls h =
     }
 
 -- a step after which the call has a wrong answer
-pub wrong_step : {T A : Type 0} (equal : T → T → Bool) (events : List (Event T A)) (o : Opening) (past : List (Item T A)) (rest : List (Event T A))
+pub wrong_step : {T A : Type 0} (equal : T → T → Bool) (events : List (Event T A)) (o : Opening) (past : List (Item T A))
+    (rest : List (Event T A))
     (t : ℕ) (own : Call T) (s : Stage T A) (step : Step T) (reply : Reply T A) → open_call past t ≡ Some (own, s)
     → is_wrong equal own (first_answer t rest) (stage_after own s reply) ≡ true
     → IsWrong equal events (open_call (Makes t step reply ∷ past) t) (first_answer t rest)
@@ -143,7 +145,8 @@ module _ {T A : Type 0} (equal : T → T → Bool) (events : List (Event T A)) (
 
   -- who is left in the channel
   left_parked : (joins : PlaceReply) → stays_parked joins ≡ true → (p : ℕ) (before : List ℕ) → All (λ q. parked_at c.calls q ≡ true) before
-      → IsPlaceAfter joins reply_by_place one.place before p → IsLeftParked c.calls one.place (progress_of (stage_after own h.stage reply)) p
+      → IsPlaceAfter joins reply_by_place one.place before p
+      → IsLeftParked c.calls one.place (progress_of (stage_after own h.stage reply)) p
   left_parked joins stays p before all (inl (has, inl differs)) =
       inl (differs, All-contains (λ q. parked_at c.calls q ≡ true) before p all has)
   left_parked joins stays p before all (inl (has, inr on)) = by_case (eqb p one.place) refl
@@ -182,12 +185,15 @@ module _ {T A : Type 0} (equal : T → T → Bool) (events : List (Event T A)) (
     abbrev pub new_state : State
     new_state = record left { calls = calls_with_progress one.place (progress_of after) c.calls }
 
-    pub move_leads : is_wrong equal own (first_answer t rest) after ≡ false → Agrees equal events o (Makes t step reply ∷ past) rest new_state
+    pub move_leads : is_wrong equal own (first_answer t rest) after ≡ false
+        → Agrees equal events o (Makes t step reply ∷ past) rest new_state
     move_leads right =
-        let so : progress_of (stage_after own h.stage reply) ≡ progress_of after = progress_by (stage_after own h.stage reply) after as_far in
+        let so : progress_of (stage_after own h.stage reply) ≡ progress_of after =
+        progress_by (stage_after own h.stage reply) after as_far in
         let e : is_wrong equal own (first_answer t rest) (stage_after own h.stage reply) ≡ false =
         wrong_by equal own (first_answer t rest) (stage_after own h.stage reply) after as_far ∙ right in
-        subst (λ (q : Progress). Agrees equal events o (Makes t step reply ∷ past) rest (record left { calls = calls_with_progress one.place q c.calls })) so
+        subst (λ (q : Progress). Agrees equal events o (Makes t step reply ∷ past) rest
+        (record left { calls = calls_with_progress one.place q c.calls })) so
         (leads e)
       where
         q : Progress
@@ -196,25 +202,32 @@ module _ {T A : Type 0} (equal : T → T → Bool) (events : List (Event T A)) (
         leads : is_wrong equal own (first_answer t rest) (stage_after own h.stage reply) ≡ false
             → Agrees equal events o (Makes t step reply ∷ past) rest (record left { calls = calls_with_progress one.place q c.calls })
         leads e =
-            agrees_after equal events o past rest c (record left { calls = calls_with_progress one.place q c.calls }) t one own h.stage step reply q
-            (tickets_after reply_by_place one.place h.agrees.state.next h.agrees.tickets) answered.state h.agrees h.is_own h.call_is h.is_open refl
+            agrees_after equal events o past rest c (record left { calls = calls_with_progress one.place q c.calls }) t one own h.stage
+            step reply q
+            (tickets_after reply_by_place one.place h.agrees.state.next h.agrees.tickets) answered.state h.agrees h.is_own h.call_is
+            h.is_open refl
             (λ p differs. ticket_kept (parks reply_by_place) one.place h.agrees.state.next h.agrees.tickets p differs)
-            (progress_after equal events own (first_answer t rest) one.place h.agrees.state.next h.agrees.tickets c.queue one.progress h.stage
+            (progress_after equal events own (first_answer t rest) one.place h.agrees.state.next h.agrees.tickets c.queue one.progress
+            h.stage
             reply_by_place reply corresponds h.progress_is e)
-            represents (mirrors_calls events (tickets_after reply_by_place one.place h.agrees.state.next h.agrees.tickets) answered.state left
+            represents (mirrors_calls events (tickets_after reply_by_place one.place h.agrees.state.next h.agrees.tickets) answered.state
+            left
             (calls_with_progress one.place q c.calls) answered.mirrors)
             (parked_if events c (record left { calls = calls_with_progress one.place q c.calls }) t one q h.is_own refl h.agrees.tickets
-            h.agrees.state.next answered.state.next h.agrees.parked (let more = next_after in omega arith) (parks reply_by_place) less as_before blocks
+            h.agrees.state.next answered.state.next h.agrees.parked (let more = next_after in omega arith)
+            (parks reply_by_place) less as_before blocks
             receives_
             (All-weaker (IsPlaceAfter Pending reply_by_place one.place c.blocked) (λ p. is_send_at events p ≡ true) left_sends left.blocked
             answered.blocked_after)
             (placed_all (λ p. is_send_at events p ≡ false) left.receives
-            (All-weaker (IsPlaceAfter Parked reply_by_place one.place (map (λ r. r.place) c.receives)) (λ p. is_send_at events p ≡ false) left_others
+            (All-weaker (IsPlaceAfter Parked reply_by_place one.place (map (λ r. r.place) c.receives))
+            (λ p. is_send_at events p ≡ false) left_others
             (map (λ r. r.place) left.receives) answered.receives_after)))
           where
             less : parks reply_by_place ≡ true → h.agrees.state.next < answered.state.next
             less parking =
-                let one_more = parking_issues (steps_in past) step reply_by_place events h.agrees.state.next c.queue reply corresponds parking
+                let one_more = parking_issues (steps_in past) step reply_by_place events h.agrees.state.next c.queue reply corresponds
+                parking
                 (subst (λ (m : Move). may_answer m reply_by_place ≡ true) (sym is_for) (made_may mv one.place c)) in
                 let more = next_after in omega arith
 
@@ -229,8 +242,10 @@ module _ {T A : Type 0} (equal : T → T → Bool) (events : List (Event T A)) (
             receives_ : All (λ r. IsLeftParked c.calls one.place q r.place) left.receives
             receives_ =
                 placed_all (IsLeftParked c.calls one.place q) left.receives
-                (All-weaker (IsPlaceAfter Parked reply_by_place one.place (map (λ r. r.place) c.receives)) (IsLeftParked c.calls one.place q)
-                (λ p k. left_parked Parked refl p (map (λ r. r.place) c.receives) (All-map (λ p. parked_at c.calls p ≡ true) (λ (r : ParkedReceive). r.place)
+                (All-weaker (IsPlaceAfter Parked reply_by_place one.place (map (λ r. r.place) c.receives))
+                (IsLeftParked c.calls one.place q)
+                (λ p k. left_parked Parked refl p (map (λ r. r.place) c.receives) (All-map (λ p. parked_at c.calls p ≡ true)
+                (λ (r : ParkedReceive). r.place)
                 c.receives h.agrees.parked.receives_parked) k) (map (λ r. r.place) left.receives) answered.receives_after)
 
     pub move_wrong : is_wrong equal own (first_answer t rest) after ≡ true

@@ -30,7 +30,8 @@ module _ {T A : Type 0} where
       ap events_in pushed ∙ events_append items (Makes t step reply ∷ []) ∙ append-nil (events_in items) ∙ is
 
   -- all were taken
-  pub taken_all : (events : List (Event T A)) (place : ℕ) (items : List (Item T A)) → place ≡ length events → events_in items ≡ take place events
+  pub taken_all : (events : List (Event T A)) (place : ℕ) (items : List (Item T A)) → place ≡ length events
+      → events_in items ≡ take place events
       → events_in items ≡ events
   taken_all events place items at is = is ∙ ap (λ n. take n events) at ∙ take_all (length events) events within
     where

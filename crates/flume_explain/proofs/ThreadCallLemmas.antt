@@ -5,16 +5,12 @@ use Rattle.std.proofs.lemmas.Bool.{eqb-true, false≢true}
 use Rattle.std.proofs.lemmas.List.Elements.{All-head, All-tail, Contains-append_right}
 use Rattle.std.proofs.lemmas.List.Folds.{list_any-append}
 use Rattle.std.specs.List.{All, Contains, filter}
+use Rattle.std.specs.Option.{option_or}
 use Rattle.flume_concurrent.specs.declared.event.Event.{Event}
 use Rattle.flume_explain.specs.declared.configuration.OpenCall.{OpenCall}
 use Rattle.flume_explain.specs.Configurations.{thread_at, call_by, is_thread, is_parked}
 use Rattle.flume_explain.specs.Agreement.{parked_at}
 use Rattle.flume_explain.specs.Happens.{new_call}
-
--- the first of two options that is there
-abbrev or_else : {X : Type 0} → Option X → Option X → Option X
-or_else None y = y
-or_else (Some x) y = Some x
 
 -- without the calls at a place
 abbrev pub without : ℕ → List OpenCall → List OpenCall
@@ -27,12 +23,14 @@ is_thread_true t (Some u) is = ap Some (eqb-true u t is)
 
 module _ {T A : Type 0} (events : List (Event T A)) where
   -- the open call of a thread among these and others
-  call_by-append : (t : ℕ) (calls more : List OpenCall) → call_by events t (calls ++ more) ≡ or_else (call_by events t calls) (call_by events t more)
+  call_by-append : (t : ℕ) (calls more : List OpenCall) → call_by events t (calls ++ more) ≡ option_or (call_by events t calls)
+      (call_by events t more)
   call_by-append t [] more = refl
   call_by-append t (one ∷ calls) more = by (is_thread t (thread_at events one.place)) (call_by-append t calls more)
     where
-      by : (b : Bool) → call_by events t (calls ++ more) ≡ or_else (call_by events t calls) (call_by events t more)
-          → (if b then Some one else call_by events t (calls ++ more)) ≡ or_else (if b then Some one else call_by events t calls) (call_by events t more)
+      by : (b : Bool) → call_by events t (calls ++ more) ≡ option_or (call_by events t calls) (call_by events t more)
+          → (if b then Some one else call_by events t (calls ++ more)) ≡ option_or (if b then Some one else call_by events t calls)
+          (call_by events t more)
       by true on = refl
       by false on = on
 
@@ -40,21 +38,23 @@ module _ {T A : Type 0} (events : List (Event T A)) where
   pub call_by-other : (t : ℕ) (calls : List OpenCall) (one : OpenCall) → is_thread t (thread_at events one.place) ≡ false
       → call_by events t (calls ++ one ∷ []) ≡ call_by events t calls
   call_by-other t calls one off = call_by-append t calls (one ∷ [])
-      ∙ ap (λ b. or_else (call_by events t calls) (if b then Some one else None)) off ∙ by (call_by events t calls)
+      ∙ ap (λ b. option_or (call_by events t calls) (if b then Some one else None)) off ∙ by (call_by events t calls)
     where
-      by : (x : Option OpenCall) → or_else x None ≡ x
+      by : (x : Option OpenCall) → option_or x None ≡ x
       by None = refl
       by (Some x) = refl
 
   -- a call of a thread that has none is its own
-  pub call_by-new : (t : ℕ) (calls : List OpenCall) (one : OpenCall) → call_by events t calls ≡ None → is_thread t (thread_at events one.place) ≡ true
+  pub call_by-new : (t : ℕ) (calls : List OpenCall) (one : OpenCall) → call_by events t calls ≡ None
+      → is_thread t (thread_at events one.place) ≡ true
       → call_by events t (calls ++ one ∷ []) ≡ Some one
   call_by-new t calls one none own = call_by-append t calls (one ∷ [])
-      ∙ ap (λ x. or_else x (call_by events t (one ∷ []))) none ∙ ap (λ b. if b then Some one else None) own
+      ∙ ap (λ x. option_or x (call_by events t (one ∷ []))) none ∙ ap (λ b. if b then Some one else None) own
 
   -- a thread that has one keeps it
-  pub call_by-kept : (t : ℕ) (calls more : List OpenCall) (one : OpenCall) → call_by events t calls ≡ Some one → call_by events t (calls ++ more) ≡ Some one
-  call_by-kept t calls more one own = call_by-append t calls more ∙ ap (λ x. or_else x (call_by events t more)) own
+  pub call_by-kept : (t : ℕ) (calls more : List OpenCall) (one : OpenCall) → call_by events t calls ≡ Some one
+      → call_by events t (calls ++ more) ≡ Some one
+  call_by-kept t calls more one own = call_by-append t calls more ∙ ap (λ x. option_or x (call_by events t more)) own
 
   -- the open call of a thread is one of the open calls, and of that thread
   abbrev IsFound : ℕ → List OpenCall → OpenCall → Type 0
@@ -68,8 +68,11 @@ module _ {T A : Type 0} (events : List (Event T A)) where
       by : (b : Bool) → is_thread t (thread_at events first.place) ≡ b → (if b then Some first else call_by events t calls) ≡ Some one
           → (call_by events t calls ≡ Some one → IsFound t calls one) → IsFound t (first ∷ calls) one
       by true own is on =
-          let same : first ≡ one = cc in
-          ((0, omega arith, same), is_thread_true t (thread_at events one.place) (subst (λ x. is_thread t (thread_at events x.place) ≡ true) same own))
+          let same : first ≡ one = cc in (
+            (0, omega arith, same),
+            is_thread_true t (thread_at events one.place)
+                (subst (λ x. is_thread t (thread_at events x.place) ≡ true) same own),
+          )
       by false own is on = let k = on is in (Contains-append_right (first ∷ []) calls one k.0, k.1)
 
   -- without the calls at a place of another thread, the thread has the same
@@ -94,12 +97,14 @@ module _ {T A : Type 0} (events : List (Event T A)) where
   StandsAt t place call = is_thread t (thread_at events call.place) ≡ true → call.place ≡ place
 
   -- so it has none
-  pub call_by-without_own : (t place : ℕ) (calls : List OpenCall) → All (StandsAt t place) calls → call_by events t (without place calls) ≡ None
+  pub call_by-without_own : (t place : ℕ) (calls : List OpenCall) → All (StandsAt t place) calls
+      → call_by events t (without place calls) ≡ None
   call_by-without_own t place [] only = refl
   call_by-without_own t place (one ∷ calls) only =
       by (one.place == place) refl (call_by-without_own t place calls (All-tail (StandsAt t place) one calls only))
     where
-      kept : (one.place == place) ≡ false → (b : Bool) → is_thread t (thread_at events one.place) ≡ b → call_by events t (without place calls) ≡ None
+      kept : (one.place == place) ≡ false → (b : Bool) → is_thread t (thread_at events one.place) ≡ b
+          → call_by events t (without place calls) ≡ None
           → (if b then Some one else call_by events t (without place calls)) ≡ None
       kept off true own on = absurd (false≢true (sym off ∙ eq-eqb one.place place (All-head (StandsAt t place) one calls only own)))
       kept off false own on = on
@@ -112,7 +117,8 @@ module _ {T A : Type 0} (events : List (Event T A)) where
 -- a call that begins isn't parked
 pub parked_at-begun : (calls : List OpenCall) (place p : ℕ) → parked_at (calls ++ new_call place ∷ []) p ≡ parked_at calls p
 parked_at-begun calls place p =
-    list_any-append (λ (call : OpenCall). call.place == p && is_parked call.progress) calls (new_call place ∷ []) ∙ by (parked_at calls p) (place == p)
+    list_any-append (λ (call : OpenCall). call.place == p && is_parked call.progress) calls (new_call place ∷ [])
+    ∙ by (parked_at calls p) (place == p)
   where
     by : (a b : Bool) → (a || ((b && false) || false)) ≡ a
     by true true = refl
@@ -125,7 +131,8 @@ abbrev pub IsIdle : ℕ → OpenCall → Type 0
 IsIdle place call = call.place ≡ place → is_parked call.progress ≡ false
 
 -- without calls that aren't parked, the same are
-pub parked_at-without : (place : ℕ) (calls : List OpenCall) (p : ℕ) → All (IsIdle place) calls → parked_at (without place calls) p ≡ parked_at calls p
+pub parked_at-without : (place : ℕ) (calls : List OpenCall) (p : ℕ) → All (IsIdle place) calls
+    → parked_at (without place calls) p ≡ parked_at calls p
 parked_at-without place [] p idle = refl
 parked_at-without place (one ∷ calls) p idle =
     by (one.place == place) refl (parked_at-without place calls p (All-tail (IsIdle place) one calls idle))

@@ -262,7 +262,8 @@ module _ {T : Type 0} (A : Type 0) (c : Channel T) where
 
 module _ {T A : Type 0} where
   -- a step takes a ticket only if its call might
-  takes : (log : Log T A) (c : Channel T) (current : Option (Call T × Stage T A)) (s : Step T) (r : Reply T A) → IsNextStep current s → IsReply c s r
+  takes : (log : Log T A) (c : Channel T) (current : Option (Call T × Stage T A)) (s : Step T) (r : Reply T A) → IsNextStep current s
+      → IsReply c s r
       → tickets_issued (change log s r) + to_park (after_reply r current) ≤ to_park current
   takes log c None s r next lawful = absurd next
   takes log c (Some current) s r next lawful = by (to_take current.1) refl
@@ -275,7 +276,8 @@ module _ {T A : Type 0} where
       asks off (inl e) = subst AreAsking e (next_asks current.0 current.1 off)
       asks off (inr e) = subst AreAsking e (other_asks current.0 current.1 off)
 
-      by : (n : ℕ) → to_take current.1 ≡ n → tickets_issued (change log s r) + to_take (stage_after current.0 current.1 r) ≤ to_take current.1
+      by : (n : ℕ) → to_take current.1 ≡ n → tickets_issued (change log s r) + to_take (stage_after current.0 current.1 r)
+          ≤ to_take current.1
       by zero off =
           let asking = asks off next in
           let none = asking_none log s r asking in
@@ -365,7 +367,8 @@ module _ {T A : Type 0} (equal : T → T → Bool) (o : Opening) where
       let own : open_call (Makes u s r ∷ past) u ≡ after_reply r (open_call past u) =
       ap (λ b. if b then after_reply r (open_call past u) else open_call past u) (eq-eqb u u refl) in
       let same = ap to_park own in
-      let so = one_more past (Makes u s r ∷ past) u (λ t off. ap (λ b. if b then after_reply r (open_call past t) else open_call past t) off)
+      let so = one_more past (Makes u s r ∷ past) u
+      (λ t off. ap (λ b. if b then after_reply r (open_call past t) else open_call past t) off)
       (next_ticket o (steps_in past)) (o.first + length (events_in past)) (tickets_issued (change (steps_in past) s r)) 0 (omega arith)
       (λ l k. tickets_within past calls.1 run.1 l k) (omega arith) ts apart in
       omega arith

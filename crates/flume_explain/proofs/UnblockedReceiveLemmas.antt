@@ -7,7 +7,8 @@ use Rattle.flume_state.specs.Messages.{Blocked}
 use Rattle.flume_state.specs.State.{State as Channel, offers_of}
 use Rattle.flume_concurrent.specs.declared.call.Call.{Call}
 use Rattle.flume_concurrent.specs.declared.event.Event.{Event}
-use Rattle.flume_explain.specs.Configurations.{State, call_at, message_at, message_of}
+use Rattle.flume_concurrent.specs.Calls.{message_of}
+use Rattle.flume_explain.specs.Configurations.{State, call_at, message_at}
 use Rattle.flume_explain.specs.Mirrors.{Mirrors, offer_for, some_offer}
 
 module _ {T A : Type 0} (events : List (Event T A)) (tickets : ℕ → ℕ) where

@@ -40,7 +40,8 @@ module _ {T A : Type 0} (equal : T → T → Bool) (events : List (Event T A)) w
       → call_by events t c.calls ≡ None → EventWaits equal events place c
   waits_none place c t recorded_answer returns_it none o past event agrees there fits =
       by (open_call past t) (subst (λ e. Fits equal past (Happens e)) same fits)
-      (subst (λ x. IsOpenAs equal events agrees.tickets (first_answer t (drop place events)) x (open_call past t)) none (agrees.calls_are t))
+      (subst (λ x. IsOpenAs equal events agrees.tickets (first_answer t (drop place events)) x (open_call past t)) none
+      (agrees.calls_are t))
     where
       same : event ≡ Returns t recorded_answer
       same = let k = sym there ∙ returns_it in let e : event ≡ Returns t recorded_answer = cc in e
@@ -51,7 +52,8 @@ module _ {T A : Type 0} (equal : T → T → Bool) (events : List (Event T A)) w
       by (Some current) may h = h
 
   -- a call that is so far returns this only if it may
-  pub may_end-may_return : (call : Call T) (recorded : Option (Answer T A)) (ticket : ℕ) (recorded_answer : Answer T A) (progress : Progress) (current : Stage T A)
+  pub may_end-may_return : (call : Call T) (recorded : Option (Answer T A)) (ticket : ℕ) (recorded_answer : Answer T A)
+      (progress : Progress) (current : Stage T A)
       → IsProgress equal events call recorded ticket progress current → may_return equal call current recorded_answer ≡ true
       → may_end equal (Some call) progress recorded_answer ≡ true
   may_end-may_return call recorded ticket recorded_answer Begun stage.Begun h may = may
@@ -62,7 +64,8 @@ module _ {T A : Type 0} (equal : T → T → Bool) (events : List (Event T A)) w
   may_end-may_return call recorded ticket recorded_answer _ _ h may = absurd h
 
   -- an open call returns nothing that it may not
-  pub waits_call : (place : ℕ) (c : State) (t : ℕ) (recorded_answer : Answer T A) (one : OpenCall) → event_at events place ≡ Some (Returns t recorded_answer)
+  pub waits_call : (place : ℕ) (c : State) (t : ℕ) (recorded_answer : Answer T A) (one : OpenCall)
+      → event_at events place ≡ Some (Returns t recorded_answer)
       → call_by events t c.calls ≡ Some one → may_end equal (call_at events one.place) one.progress recorded_answer ≡ false
       → EventWaits equal events place c
   waits_call place c t recorded_answer one returns_it own never o past event agrees there fits =
@@ -77,4 +80,5 @@ module _ {T A : Type 0} (equal : T → T → Bool) (events : List (Event T A)) w
       by None may h = h
       by (Some current) may h =
           false≢true (sym never ∙ ap (λ x. may_end equal x one.progress recorded_answer) h.0
-          ∙ may_end-may_return current.0 (first_answer t (drop place events)) (agrees.tickets one.place) recorded_answer one.progress current.1 h.1 may)
+          ∙ may_end-may_return current.0 (first_answer t (drop place events)) (agrees.tickets one.place) recorded_answer one.progress
+          current.1 h.1 may)

@@ -98,7 +98,8 @@ module _ {T A : Type 0} (events : List (Event T A)) (o : Opening) (log : Log T A
       left_blocked true a = rw a (all_left (reply.Gone (closed_now c)) place c.blocked unblocked)
       left_blocked false a = rw a (all_left (reply.Gone (closed_now c)) place c.blocked unblocked)
 
-      others : All (IsPlaceAfter reply.Parked (reply.Gone (closed_now c)) place (places c.receives)) (places (without_place place c.receives))
+      others : All (IsPlaceAfter reply.Parked (reply.Gone (closed_now c)) place (places c.receives))
+          (places (without_place place c.receives))
       others =
           left_others (reply.Gone (closed_now c)) place (places c.receives) _ (without_among place c.receives)
           (others_elsewhere events tickets s c place mirrors apart.from_parked o log h)

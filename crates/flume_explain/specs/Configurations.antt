@@ -4,11 +4,11 @@ use Rattle.std.specs.Prelude.{ℕ, zero, suc, ◌==◌, Bool, true, false, if◌
 use Rattle.std.specs.Prelude.{map, Option, Some, None}
 use Rattle.std.specs.Option.{option_and_then, option_map}
 use Rattle.flume_concurrent.specs.declared.call.Call.{Call}
-use Rattle.flume_concurrent.specs.declared.call.Call.TheVariants.{Send, SendTimeout, SendAsync}
-use Rattle.flume_concurrent.specs.declared.call.Call.TheVariants.{TrySend}
 use Rattle.flume_concurrent.specs.declared.call.Answer.{Answer}
 use Rattle.flume_concurrent.specs.declared.event.Event.{Event}
 use Rattle.flume_concurrent.specs.declared.event.Event.TheVariants.{Begins, Returns}
+use Rattle.flume_concurrent.specs.Calls.{message_of}
+use Rattle.flume_concurrent.specs.Explanations.{thread_of}
 use Rattle.flume_explain.specs.declared.configuration.OpenCall.{OpenCall}
 use Rattle.flume_explain.specs.declared.configuration.ParkedReceive.{ParkedReceive}
 use Rattle.flume_explain.specs.declared.configuration.Progress.{Progress}
@@ -61,15 +61,6 @@ abbrev pub is_thread : ℕ → Option ℕ → Bool
 is_thread t None = false
 is_thread t (Some u) = u == t
 
-module _ {T : Type 0} where
-  -- the message that a call sends
-  abbrev pub message_of : Call T → Option T
-  message_of (Send m) = Some m
-  message_of (SendTimeout m) = Some m
-  message_of (SendAsync m) = Some m
-  message_of (TrySend m) = Some m
-  message_of _ = None
-
 module _ {T A : Type 0} where
   -- the event at a place
   abbrev pub event_at : List (Event T A) → ℕ → Option (Event T A)
@@ -81,11 +72,6 @@ module _ {T A : Type 0} where
   abbrev pub call_of : Event T A → Option (Call T)
   call_of (Begins t call) = Some call
   call_of (Returns t answer) = None
-
-  -- the thread of an event
-  abbrev pub thread_of : Event T A → ℕ
-  thread_of (Begins t call) = t
-  thread_of (Returns t answer) = t
 
   -- the call that began at a place
   abbrev pub call_at : List (Event T A) → ℕ → Option (Call T)

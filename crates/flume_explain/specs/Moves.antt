@@ -11,13 +11,12 @@ use Rattle.flume_concurrent.specs.declared.call.Call.TheVariants as call
 use Rattle.flume_concurrent.specs.declared.event.Item.{Item}
 use Rattle.flume_concurrent.specs.declared.event.Item.TheVariants.{Happens, Makes}
 use Rattle.flume_concurrent.specs.declared.stage.Stage.{Stage}
-use Rattle.flume_concurrent.specs.Calls.{next_step, alternative_step, is_send}
+use Rattle.flume_concurrent.specs.Calls.{next_step, alternative_step, is_send, message_of}
 use Rattle.flume_concurrent.specs.Explanations.{open_call}
 use Rattle.flume_explain.specs.declared.configuration.Progress.{Progress}
 use Rattle.flume_explain.specs.declared.configuration.Progress.TheVariants as progress
 use Rattle.flume_explain.specs.declared.step_of.Move.{Move}
 use Rattle.flume_explain.specs.declared.step_of.Move.TheVariants as move
-use Rattle.flume_explain.specs.Configurations.{message_of}
 
 module _ {T : Type 0} where
   -- the first move of a call, and its only one if it doesn't wait

@@ -1,7 +1,7 @@
 //! When each call returns, and who receives its message, by the events.
 use crate::configuration::{Configuration, OpenCall, ParkedReceive, Progress, Status};
 use crate::places::call_at;
-use crate::replies::{message_at, message_of};
+use crate::replies::message_at;
 use flume_concurrent::call::{Answer, Call};
 use flume_concurrent::event::Event;
 use std::alloc::Allocator;
@@ -55,7 +55,7 @@ impl<A: Allocator + Copy> CallRecords<A> {
         }
         match events.get(place) {
             Some(Event::Begins { thread, call }) => {
-                (message_of(call).is_none() || self.sends.push(place).is_ok())
+                (call.message().is_none() || self.sends.push(place).is_ok())
                     && self.open.push((*thread, place)).is_ok()
             }
             Some(Event::Returns { thread, answer }) => {

@@ -113,26 +113,14 @@ impl<A: Allocator + Copy> Configuration<A> {
     pub fn try_clone(&self, alloc: A) -> Option<Self>
         ensures same { IfSome result (λ copy. copy ≡ self.now) }
     {
-        let Ok(queue) = Vec::from_slice(alloc, self.queue.as_slice()) else {
-            return None;
-        };
-        let Ok(blocked) = Vec::from_slice(alloc, self.blocked.as_slice()) else {
-            return None;
-        };
-        let Ok(receives) = Vec::from_slice(alloc, self.receives.as_slice()) else {
-            return None;
-        };
-        let Ok(calls) = Vec::from_slice(alloc, self.calls.as_slice()) else {
-            return None;
-        };
         Some(Configuration {
             capacity: self.capacity,
             senders: self.senders,
             receivers: self.receivers,
-            queue,
-            blocked,
-            receives,
-            calls,
+            queue: Vec::from_slice(alloc, self.queue.as_slice()).ok()?,
+            blocked: Vec::from_slice(alloc, self.blocked.as_slice()).ok()?,
+            receives: Vec::from_slice(alloc, self.receives.as_slice()).ok()?,
+            calls: Vec::from_slice(alloc, self.calls.as_slice()).ok()?,
         })
     }
 

@@ -13,7 +13,7 @@ use crate::configuration::{Configuration, OpenCall, Progress, calls_with_progres
 use crate::place_reply::PlaceReply;
 use crate::places::call_at;
 use crate::progress::{is_wrong, progress_of};
-use crate::replies::{message_of, reply_for};
+use crate::replies::reply_for;
 use crate::step_of::{Move, move_of};
 use flume_concurrent::call::{Answer, Call};
 use flume_concurrent::event::Event;
@@ -169,7 +169,7 @@ impl<A: Allocator + Copy> Configuration<A> {
         reply_for(
             alloc,
             reply_by_place,
-            message_of(call),
+            call.message(),
             events,
             self.queue.as_slice(),
         )

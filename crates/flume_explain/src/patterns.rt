@@ -172,10 +172,8 @@ fn returns_in<T: Drop, A: Allocator>(events: &[Event<T, A>], own: usize) -> bool
 fn sends<T: Copy + Eq>(call: &Call<T>, message: T) -> bool
     ensures value { result ≡ sends_such (T.eq message) call.now }
 {
-    match call {
-        Call::Send(own) | Call::SendTimeout(own) | Call::SendAsync(own) | Call::TrySend(own) => {
-            message == *own
-        }
-        _ => false,
+    match call.message() {
+        Some(own) => message == own,
+        None => false,
     }
 }

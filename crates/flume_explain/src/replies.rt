@@ -1,12 +1,11 @@
 //! Replies of a channel, from replies by places.
 ghost use Rattle.std.specs.Prelude.{◌≡◌, ℕ, IfSome, List, Some, map};
 ghost use Rattle.flume_concurrent.specs.declared.event.Event.{Event};
-ghost use Rattle.flume_explain.specs.Configurations.{message_at, message_of};
+ghost use Rattle.flume_explain.specs.Configurations.{message_at};
 ghost use Rattle.flume_explain.specs.Mirrors.{Corresponds};
 
 use crate::place_reply::PlaceReply;
 use crate::places::call_at;
-use flume_concurrent::call::Call;
 use flume_concurrent::event::Event;
 use flume_model::step::Reply;
 use std::alloc::Allocator;
@@ -64,19 +63,6 @@ fn plain_reply<T, A: Allocator>(reply_by_place: PlaceReply) -> Option<Reply<T, A
     }
 }
 
-/// The message that a call sends.
-pub fn message_of<T: Copy>(call: &Call<T>) -> Option<T>
-    ensures message { result ≡ message_of call.now }
-{
-    match call {
-        Call::Send(message)
-        | Call::SendTimeout(message)
-        | Call::SendAsync(message)
-        | Call::TrySend(message) => Some(*message),
-        _ => None,
-    }
-}
-
 /// The message that the call sends that began at a place.
 pub fn message_at<T: Copy + Eq + Drop, A: Allocator + Copy>(
     events: &[Event<T, A>],
@@ -84,7 +70,7 @@ pub fn message_at<T: Copy + Eq + Drop, A: Allocator + Copy>(
 ) -> Option<T>
     ensures message { result ≡ message_at events.now place }
 {
-    message_of(call_at(events, place)?)
+    call_at(events, place)?.message()
 }
 
 fn messages_at<T: Copy + Eq + Drop, A: Allocator + Copy>(

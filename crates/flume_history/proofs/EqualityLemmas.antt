@@ -47,7 +47,8 @@ module _ {T A : Type 0} (equal : T → T → Bool) where
       by_want (inr none) = (λ w. absurd (none w), λ w. absurd (had_memory recorded reply none h w))
 
   -- of two replies that equal one both are `NoMemory` or neither is
-  pub tells_want : (recorded reply other : Reply T A) → Equals equal recorded reply → Equals equal recorded other → IsNoMemory reply ↔ IsNoMemory other
+  pub tells_want : (recorded reply other : Reply T A) → Equals equal recorded reply → Equals equal recorded other
+      → IsNoMemory reply ↔ IsNoMemory other
   tells_want recorded reply other h k = (
     λ w. (same_want recorded other k).0 ((same_want recorded reply h).1 w),
     λ w. (same_want recorded reply h).0 ((same_want recorded other k).1 w),
@@ -60,7 +61,8 @@ module _ {T A : Type 0} (equal : T → T → Bool) where
   drained _ list other same h = absurd (never h)
 
   -- what equals a reply equals the same one
-  pub goes_by_messages : (recorded reply other : Reply T A) → SameReply reply other → Equals equal recorded reply → Equals equal recorded other
+  pub goes_by_messages : (recorded reply other : Reply T A) → SameReply reply other → Equals equal recorded reply
+      → Equals equal recorded other
   goes_by_messages recorded (Drained list) (Drained other) same h = drained recorded list other same h
   goes_by_messages recorded (Drained list) _ same h = subst (λ r. Equals equal recorded r) same h
   goes_by_messages recorded _ other same h = subst (λ r. Equals equal recorded r) same h

@@ -1,5 +1,6 @@
 -- A history that was followed so far is followed on, or breaks.
-use Rattle.std.proofs.Common.{◌≡◌, ◌↔◌, ℕ, suc, ◌+◌, ◌<◌, List, [], ◌∷◌, ◌++◌, Option, refl, sym, ◌∙◌, ap, subst, arith, length, take, drop, reverse, take-append-drop}
+use Rattle.std.proofs.Common.{◌≡◌, ◌↔◌, ℕ, suc, ◌+◌, ◌<◌, List, [], ◌∷◌, ◌++◌, Option, refl, sym, ◌∙◌, ap}
+use Rattle.std.proofs.Common.{subst, arith, length, take, drop, reverse, take-append-drop}
 use Rattle.std.proofs.Math.ListN.{get_or}
 use Rattle.std.proofs.Math.Seq.{take-suc}
 use Rattle.std.proofs.lemmas.List.{reverse-append}
@@ -45,7 +46,8 @@ module _ {T A X : Type 0} (says : X → Reply T A → Type 0) where
 
 module _ {T A X : Type 0} (says : X → Reply T A → Type 0) (tells : TellsWant says) where
   -- two logs of which the same is said have the same steps, of which the same ones wanted memory
-  pub same_steps : (said : List (Step T × X)) (log other : Log T A) → IsSaidOf says said log → IsSaidOf says said other → SameSteps log other
+  pub same_steps : (said : List (Step T × X)) (log other : Log T A) → IsSaidOf says said log → IsSaidOf says said other
+      → SameSteps log other
   same_steps [] [] [] h k = tt
   same_steps [] [] (r ∷ other) h k = absurd k
   same_steps [] (q ∷ log) other h k = absurd h

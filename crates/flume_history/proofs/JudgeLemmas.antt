@@ -1,5 +1,6 @@
 -- A history that was followed so far, with what was said: it goes on, or breaks.
-use Rattle.std.proofs.Common.{◌≡◌, ℕ, suc, ◌+◌, ◌<◌, List, ◌∷◌, ◌++◌, Option, sym, ap, subst, subst₂, ◌∙◌, length, take, drop, reverse, arith}
+use Rattle.std.proofs.Common.{◌≡◌, ℕ, suc, ◌+◌, ◌<◌, List, ◌∷◌, ◌++◌, Option, sym, ap, subst, subst₂, ◌∙◌}
+use Rattle.std.proofs.Common.{length, take, drop, reverse, arith}
 use Rattle.std.proofs.Math.ListN.{get_or}
 use Rattle.std.proofs.Math.Seq.{drop-cons}
 use Rattle.std.proofs.lemmas.List.{take-append-drop, length-take-le}

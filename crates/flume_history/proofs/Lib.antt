@@ -14,7 +14,7 @@ pub mod OneReplyLemmas
 pub mod SameLogLemmas
 -- Runs of the same steps are the same.
 pub mod OneRunLemmas
--- Where a state says that memory may be needed: there the abstract channel may answer so.
+-- If a state says that memory may be needed, the abstract channel may answer so.
 pub mod WantingLemmas
 -- What equal replies have in common.
 pub mod EqualityLemmas

@@ -12,7 +12,8 @@ use Rattle.std.proofs.lemmas.List.Splits.{slice_split_at}
 use Rattle.flume_model.specs.declared.step.Kind.TheVariants.{Block, Plain, Stream, Arm}
 use Rattle.flume_model.specs.declared.step.Step.{Step}
 use Rattle.flume_model.specs.declared.step.Step.TheVariants.{TrySend, Send, PollSend, WithdrawSend, TryRecv, Recv, Poll, Withdraw, Drain}
-use Rattle.flume_model.specs.declared.step.Step.TheVariants.{CloneSender, CloneReceiver, DropSender, DropReceiver, Len, IsEmpty, IsFull, SetCapacity}
+use Rattle.flume_model.specs.declared.step.Step.TheVariants.{CloneSender, CloneReceiver, DropSender}
+use Rattle.flume_model.specs.declared.step.Step.TheVariants.{DropReceiver, Len, IsEmpty, IsFull, SetCapacity}
 use Rattle.flume_model.specs.declared.step.Step.TheVariants.{Capacity, SenderCount, ReceiverCount, IsDisconnected}
 use Rattle.flume_script.specs.Script.{IsWordWithNumber, IsStepLine}
 
@@ -60,7 +61,8 @@ digits_plain (c ∷ digits) all = (other (eqb c 45) refl, digits_plain digits al
 call_plain : (line word : List ℕ) (n : ℕ) → IsPlain word → IsWordWithNumber line word n → NoHyphen line
 call_plain line word n is_plain call =
     subst NoHyphen (sym call.line_is)
-    (All-append (λ x. eqb x 45 ≡ false) word call.digits (plain word is_plain) (plain call.digits (digits_plain call.digits call.numeral.1)))
+    (All-append (λ x. eqb x 45 ≡ false) word call.digits (plain word is_plain)
+    (plain call.digits (digits_plain call.digits call.numeral.1)))
 
 -- a line that is a text which is written out has none
 word_plain : (line text : List ℕ) → IsPlain text → line ≡ text → NoHyphen line

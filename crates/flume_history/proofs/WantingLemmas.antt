@@ -1,4 +1,4 @@
--- Where a state says that memory may be needed: there the abstract channel may answer so.
+-- If a state says that memory may be needed, the abstract channel may answer so.
 use Rattle.std.proofs.Common.{◌≡◌, ℕ, ◌+◌, ◌<◌, inl, inr, true, [], ◌∷◌, ◌++◌, length, map}
 use Rattle.std.proofs.Common.{List, Option, Some, None, refl, sym, ◌∙◌, ap, subst, subst₂, arith, length-append}
 use Rattle.std.specs.Option.{option_map}

@@ -54,12 +54,12 @@ break_text number said expected =
     codes "line " ++ decimal number ++ codes ": " ++ said ++ codes ", but " ++ expected ++ 10 ∷ []
 
 -- each line is right, and the pairs are a history
-pub record PrintsRun (A : Type 0) (input text : List ℕ) (status : ℕ) : Type 0 where
+pub record PrintsCorrect (A : Type 0) (input text : List ℕ) (status : ℕ) : Type 0 where
   pub capacity : Option ℕ
   pub pairs : List Pair
   pub reads : IsScript IsPairLine (lines input) capacity pairs
   pub is_history : IsHistory {A = A} Says (opens capacity 1) pairs
-  pub text_is : text ≡ codes "run" ++ 10 ∷ []
+  pub text_is : text ≡ codes "correct" ++ 10 ∷ []
   pub status_is : status ≡ 0
 
 -- each line is right: the text names the first reply that isn't lawful, and what is lawful there
@@ -81,5 +81,5 @@ pub record Breaks (A : Type 0) (input text : List ℕ) (status : ℕ) : Type 0 w
 -- this text is printed of these bytes, with this status; A allocates the lists of the replies
 abbrev pub Judges : Type 0 → List ℕ → List ℕ → ℕ → Type 0
 Judges A input text status =
-    PrintsRun A input text status
+    PrintsCorrect A input text status
     ⊎ (Breaks A input text status ⊎ Refuses IsPairLine input text status)

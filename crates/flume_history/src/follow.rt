@@ -14,12 +14,11 @@ use flume_core::chan::Chan;
 use flume_model::step::{Reply, Step};
 use std::alloc::Allocator;
 
-/// What a recorded reply is.
+/// Whether a channel may give a recorded reply.
 #[derive(Drop)]
 pub enum Followed<T, A: Allocator> {
-    /// It equals this reply, which a channel may give.
+    /// It may: the recorded reply equals this one.
     Lawful(Reply<T, A>),
-    /// No channel may answer so.
     Unlawful,
     /// The channel itself ran out of memory: nothing is known.
     NoMemory,

@@ -1,6 +1,5 @@
 //! Checks whether a correct channel could have produced a recorded history. After each run a step
 //! has at most one lawful reply other than `NoMemory` (`laws`), so this can be decided.
-//!
 //! ```
 //! let history = [
 //!     (Step::TrySend(5), Reply::Sent { filled: None }),

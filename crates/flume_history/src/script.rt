@@ -24,9 +24,8 @@ use std::alloc::Allocator;
 
 /// Whether a correct channel could have produced the history in a script with ` -> ` and a reply
 /// behind each step. `NoMemory`: an allocation failed. Linear, but for finding tickets.
-///
 /// - If a line is wrong, the text and the status are `run_script`'s: all lines are read first.
-/// - If the lines are a history, the text is `run`, and the status 0.
+/// - If the lines are a history, the text is `correct`, and the status 0.
 /// - Else the text names the first line whose reply isn't lawful, this reply, and the lawful one:
 ///   the channel's own, and ` or ` `NoMemory` if that is too. The status is 1.
 /// ```
@@ -65,7 +64,7 @@ fn judge<A: Allocator + Copy>(
         }
     }
     let mut text = Vec::new(alloc);
-    text.extend_from_slice(b"run\n")?;
+    text.extend_from_slice(b"correct\n")?;
     Ok(ScriptOutput { text, status: 0 })
 }
 

@@ -28,9 +28,9 @@ pub use Rattle.flume_model.specs.Entries.{is_filled, is_woken, entry_of, leave_f
 pub use Rattle.flume_model.specs.Entries.{is_waiting}
 pub use Rattle.flume_model.specs.Entries.{some_wait, waiting_count, woken_count, round_for, round_for_fills, again_as, again, passes_on}
 pub use Rattle.flume_model.specs.Entries.{after_leave, marked, held_in, held_by}
-pub use Rattle.flume_model.specs.Fills.{FillIs, IsOf, shows_to, shown, or_else}
-pub use Rattle.flume_model.specs.Laws.{IsBelow, IsEarlier, Rising, InOrder, TicketsRise, BlockedAtCapacity, HandedOutStay, LiveAreKept}
-pub use Rattle.flume_model.specs.Laws.{AcceptedBelowBlocked}
+pub use Rattle.std.specs.Option.{option_or}
+pub use Rattle.flume_model.specs.Fills.{FillIs, IsOf, shows_to, shown}
+pub use Rattle.flume_model.specs.Laws.{IsBelow, IsEarlier, Rising, InOrder}
 pub use Rattle.flume_model.specs.Limits.{IsOpen, most, HasRoom, IsAtCapacity, is_closed, IsClosed, IsBounded}
 pub use Rattle.flume_model.specs.Line.{tickets_issued, issues, fill_count, next_ticket, queue, spends, is_live, line, boundary, messages}
 pub use Rattle.flume_model.specs.Line.{boundary_after, blocked, capacity, capacity_after, greater, greatest}
@@ -42,9 +42,9 @@ pub use Rattle.flume_model.specs.Offers.{fill, hands_out, kept, handed_out, hand
 pub use Rattle.flume_model.specs.Parked.{LogEntry, same_notice, entries_after, entries, is_closed_after, new_entry, peak}
 pub use Rattle.flume_model.specs.Producers.{HandedOutInOrder}
 pub use Rattle.flume_model.specs.Replies.{IsRun, IsReply}
-pub use Rattle.flume_model.specs.WaitLaws.{Apart, EntriesApart, SidesApart, FilledIfNamed, block_woken, is_block, IsWithinCapacity, Bounded}
+pub use Rattle.flume_model.specs.WaitLaws.{Apart, SidesApart, FilledIfNamed, block_woken, is_block, IsWithinCapacity, Bounded}
 pub use Rattle.flume_model.specs.WaitLaws.{Covered}
-pub use Rattle.flume_model.specs.WaitLaws.{WaitsWhileOpen, NothingOnceOver, WokenBlockWhileClosed}
+pub use Rattle.flume_model.specs.WaitLaws.{WokenBlockWhileClosed}
 pub use Rattle.flume_model.specs.WakeRule.{IsPassed, IsWakeRound}
 pub use Rattle.flume_model.specs.declared.entry.Entry.{Entry}
 pub use Rattle.flume_model.specs.declared.entry.Mark.{Mark}

@@ -1,8 +1,10 @@
 -- What a change that fits does to the tickets of entries and to which of them are filled.
 use Rattle.flume_model.proofs.Common.{◌≡◌, ℕ, ◌+◌, ◌<◌, ◌≤◌, Bool, true, false, ◌||◌, if◌then◌else◌, eqb, List, Option, Some, None, refl}
 use Rattle.flume_model.proofs.Common.{sym, ◌∙◌, ap, arith, inl, inr, ◌⊎◌, eqb-true, ne_eqb, Channel, is_filled, is_woken, all_woken}
-use Rattle.flume_model.proofs.Common.{entry_of, round, round_fills, without_ticket, tickets_issued, issues, Change, Queues, Blocks, Takes, Parks, Asks}
-use Rattle.flume_model.proofs.Common.{Collects, Leaves, SenderLeaves, ReceiverLeaves, is_ticket, LogEntry, same_notice, entries_after, Apart}
+use Rattle.flume_model.proofs.Common.{entry_of, round, round_fills, without_ticket, tickets_issued, issues}
+use Rattle.flume_model.proofs.Common.{Change, Queues, Blocks, Takes, Parks, Asks}
+use Rattle.flume_model.proofs.Common.{Collects, Leaves, SenderLeaves, ReceiverLeaves, is_ticket, LogEntry}
+use Rattle.flume_model.proofs.Common.{same_notice, entries_after, Apart}
 use Rattle.flume_model.proofs.Common.{Mark, common_steps}
 use Rattle.flume_model.proofs.EntryListLemmas.{tickets_round, tickets_woken, ticket_of, fills_none_else, none_same, none_without, none_push}
 use Rattle.flume_model.proofs.EntryListLemmas.{round_for_push, again_cases, leave_cases}
@@ -26,7 +28,8 @@ module _ {T : Type 0} where
   none_round t front es h = none_same t es (round same_notice front es) (sym (tickets_round same_notice front es)) h
 
   -- if an end leaves, the tickets stay apart
-  apart_close : (n : ℕ) (closes : Bool) (es : List (LogEntry T)) → Apart n es → Apart (n + 0) (if closes then all_woken same_notice es else es)
+  apart_close : (n : ℕ) (closes : Bool) (es : List (LogEntry T)) → Apart n es
+      → Apart (n + 0) (if closes then all_woken same_notice es else es)
   apart_close n true es h = apart_above n (n + 0) _ (omega arith) (apart_same n es _ (sym (tickets_woken same_notice es)) h)
   apart_close n false es h = apart_above n (n + 0) es (omega arith) h
 

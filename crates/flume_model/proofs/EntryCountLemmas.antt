@@ -31,10 +31,10 @@ module _ {T N : Type 0} where
     pub fewer : some_wait es ≡ true → waiting_count after + 1 ≤ waiting_count es
 
   -- a round wakes or fills one if one waits, and as many wait no longer as it wakes and fills
-  pub round_counts : (tell : N → N) (front : T) (es : List (Entry T N)) → Rounded es (round tell front es) (round_fills es)
-  round_counts tell front [] =
+  pub round_counts : (notify : N → N) (front : T) (es : List (Entry T N)) → Rounded es (round notify front es) (round_fills es)
+  round_counts notify front [] =
       record { total = omega arith; no_more = omega arith; fewer = λ some. absurd (let none : ⊥ = cc in none) }
-  round_counts tell front (x ∷ es) = let rest = round_counts tell front es in record {
+  round_counts notify front (x ∷ es) = let rest = round_counts notify front es in record {
     total = grind (arith, common_steps, rest.total);
     no_more = grind (arith, common_steps, rest.no_more);
     fewer = grind (arith, common_steps, rest.fewer);

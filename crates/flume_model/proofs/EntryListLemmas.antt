@@ -1,6 +1,7 @@
 -- What wake rounds, a leave and one more entry do to the tickets of entries and to their marks.
 use Rattle.flume_model.proofs.Common.{◌≡◌, ℕ, Bool, true, false, if◌then◌else◌, eqb, List, [], ◌∷◌, ◌++◌, Option, Some, None, refl, eq-eqb}
-use Rattle.flume_model.proofs.Common.{is_woken, round, round_fills, round_for, round_for_fills, all_woken, entry_of, without_ticket, again_as}
+use Rattle.flume_model.proofs.Common.{is_woken, round, round_fills, round_for, round_for_fills, all_woken}
+use Rattle.flume_model.proofs.Common.{entry_of, without_ticket, again_as}
 use Rattle.flume_model.proofs.Common.{again, passes_on, after_leave, leave_fills, is_ticket, Entry, Waiting, arith, common_steps}
 
 module _ {T N : Type 0} where
@@ -25,14 +26,14 @@ module _ {T N : Type 0} where
   ticket_of t e (x ∷ es) h = grind (arith, common_steps, ticket_of t e es)
 
   -- a round changes no ticket
-  pub tickets_round : (tell : N → N) (front : T) (es : List (Entry T N)) → tickets (round tell front es) ≡ tickets es
-  tickets_round tell front [] = refl
-  tickets_round tell front (x ∷ es) = grind (arith, common_steps, tickets_round tell front es)
+  pub tickets_round : (notify : N → N) (front : T) (es : List (Entry T N)) → tickets (round notify front es) ≡ tickets es
+  tickets_round notify front [] = refl
+  tickets_round notify front (x ∷ es) = grind (arith, common_steps, tickets_round notify front es)
 
   -- a wake of all changes no ticket
-  pub tickets_woken : (tell : N → N) (es : List (Entry T N)) → tickets (all_woken tell es) ≡ tickets es
-  tickets_woken tell [] = refl
-  tickets_woken tell (x ∷ es) = grind (arith, common_steps, tickets_woken tell es)
+  pub tickets_woken : (notify : N → N) (es : List (Entry T N)) → tickets (all_woken notify es) ≡ tickets es
+  tickets_woken notify [] = refl
+  tickets_woken notify (x ∷ es) = grind (arith, common_steps, tickets_woken notify es)
 
   -- a round fills none that isn't there
   pub fills_none_else : (t : ℕ) (es : List (Entry T N)) → entry_of t es ≡ None → is_ticket t (round_fills es) ≡ false
@@ -66,18 +67,18 @@ module _ {T N M : Type 0} where
 
 module _ {T N : Type 0} where
   -- what holds if a queue is empty and if a round comes, holds of what a round for the queue leaves
-  pub round_for_cases : (P : List (Entry T N) → Option ℕ → Type 0) (tell : N → N) (queue_ : List T) (es : List (Entry T N))
+  pub round_for_cases : (P : List (Entry T N) → Option ℕ → Type 0) (notify : N → N) (queue_ : List T) (es : List (Entry T N))
       → (queue_ ≡ [] → P es None)
-      → ((front : T) (rest : List T) → queue_ ≡ front ∷ rest → P (round tell front es) (round_fills es))
-      → P (round_for tell queue_ es) (round_for_fills queue_ es)
-  round_for_cases P tell [] es none some = none refl
-  round_for_cases P tell (front ∷ rest) es none some = some front rest refl
+      → ((front : T) (rest : List T) → queue_ ≡ front ∷ rest → P (round notify front es) (round_fills es))
+      → P (round_for notify queue_ es) (round_for_fills queue_ es)
+  round_for_cases P notify [] es none some = none refl
+  round_for_cases P notify (front ∷ rest) es none some = some front rest refl
 
   -- with one more message there is a round
-  pub round_for_push : (P : List (Entry T N) → Type 0) (tell : N → N) (queue_ : List T) (m : T) (es : List (Entry T N))
-      → ((front : T) → P (round tell front es)) → P (round_for tell (queue_ ++ m ∷ []) es)
-  round_for_push P tell [] m es some = some m
-  round_for_push P tell (front ∷ rest) m es some = some front
+  pub round_for_push : (P : List (Entry T N) → Type 0) (notify : N → N) (queue_ : List T) (m : T) (es : List (Entry T N))
+      → ((front : T) → P (round notify front es)) → P (round_for notify (queue_ ++ m ∷ []) es)
+  round_for_push P notify [] m es some = some m
+  round_for_push P notify (front ∷ rest) m es some = some front
 
   -- a receiver that asks keeps its place, or was woken and goes behind all others
   pub again_cases : (P : List (Entry T N) → Type 0) (t : ℕ) (es : List (Entry T N)) → P es
@@ -95,15 +96,15 @@ module _ {T N : Type 0} where
           by_case false waits = stays
 
   -- a receiver that leaves leaves the others as they are, or passes a round on
-  pub leave_cases : (P : List (Entry T N) → Option ℕ → Type 0) (tell : N → N) (t : ℕ) (queue_ : List T) (es : List (Entry T N))
+  pub leave_cases : (P : List (Entry T N) → Option ℕ → Type 0) (notify : N → N) (t : ℕ) (queue_ : List T) (es : List (Entry T N))
       → ((passes_on (entry_of t es) ≡ true → queue_ ≡ []) → P (without_ticket t es) None)
       → (passes_on (entry_of t es) ≡ true → (front : T) (rest : List T) → queue_ ≡ front ∷ rest
-      → P (round tell front (without_ticket t es)) (round_fills (without_ticket t es)))
-      → P (after_leave tell t queue_ es) (leave_fills t queue_ es)
-  leave_cases P tell t queue_ es stays passes = by_case (passes_on (entry_of t es)) refl
+      → P (round notify front (without_ticket t es)) (round_fills (without_ticket t es)))
+      → P (after_leave notify t queue_ es) (leave_fills t queue_ es)
+  leave_cases P notify t queue_ es stays passes = by_case (passes_on (entry_of t es)) refl
     where
       by_case : (b : Bool) → passes_on (entry_of t es) ≡ b
-          → P (if b then round_for tell queue_ (without_ticket t es) else without_ticket t es)
+          → P (if b then round_for notify queue_ (without_ticket t es) else without_ticket t es)
           (if b then round_for_fills queue_ (without_ticket t es) else None)
-      by_case true e = round_for_cases P tell queue_ (without_ticket t es) (λ none. stays (λ same. none)) (passes e)
+      by_case true e = round_for_cases P notify queue_ (without_ticket t es) (λ none. stays (λ same. none)) (passes e)
       by_case false e = stays (λ same. absurd (let none : ⊥ = cc in none))

@@ -1,6 +1,7 @@
 -- Which entries are filled after a wake round, a leave and one more entry, and that their tickets stay apart.
 use Rattle.flume_model.proofs.Common.{◌≡◌, ℕ, ◌<◌, ◌≤◌, Bool, false, ◌||◌, eqb, List, [], ◌∷◌, ◌++◌, Some, None, refl, arith, eq-eqb}
-use Rattle.flume_model.proofs.Common.{or_left, is_filled, round, round_fills, all_woken, entry_of, without_ticket, is_ticket, LogEntry, Apart}
+use Rattle.flume_model.proofs.Common.{or_left, is_filled, round, round_fills, all_woken, entry_of}
+use Rattle.flume_model.proofs.Common.{without_ticket, is_ticket, LogEntry, Apart}
 use Rattle.flume_model.proofs.Common.{Entry, Mark, Waiting, Woken, Filled, Kind, Block, Plain, Stream, Arm, common_steps}
 use Rattle.flume_model.proofs.EntryListLemmas.{tickets, fills_none_else, none_without, none_push, none_same}
 
@@ -34,9 +35,9 @@ module _ {T N : Type 0} where
   filled_push was (y ∷ es) x all h = (all.0, filled_push was es x all.1 h)
 
   -- if all that wait are woken
-  pub filled_woken : (tell : N → N) (was : ℕ → Bool) (es : List (Entry T N)) → FilledBy was es → FilledBy was (all_woken tell es)
-  filled_woken tell was [] all = tt
-  filled_woken tell was (x ∷ es) all = grind (arith, common_steps, filled_woken tell was es)
+  pub filled_woken : (notify : N → N) (was : ℕ → Bool) (es : List (Entry T N)) → FilledBy was es → FilledBy was (all_woken notify es)
+  filled_woken notify was [] all = tt
+  filled_woken notify was (x ∷ es) all = grind (arith, common_steps, filled_woken notify was es)
 
 module _ {T : Type 0} where
   -- a greater bound
@@ -78,19 +79,19 @@ module _ {T : Type 0} where
   apart_push n (y ∷ es) x h none below = grind (arith, common_steps, apart_push n es x, none_push)
 
   -- after a round, the entry that it fills is filled too
-  pub filled_round : (tell : Unit {0} → Unit {0}) (front : T) (n : ℕ) (was : ℕ → Bool) (es : List (LogEntry T)) → Apart n es
-      → FilledBy was es → FilledBy (λ t. is_ticket t (round_fills es) || was t) (round tell front es)
-  filled_round tell front n was [] apart all = tt
-  filled_round tell front n was (x ∷ es) apart all =
-      by_mark x.kind x.mark all.0 (filled_round tell front n was es apart.2 all.1)
+  pub filled_round : (notify : Unit {0} → Unit {0}) (front : T) (n : ℕ) (was : ℕ → Bool) (es : List (LogEntry T)) → Apart n es
+      → FilledBy was es → FilledBy (λ t. is_ticket t (round_fills es) || was t) (round notify front es)
+  filled_round notify front n was [] apart all = tt
+  filled_round notify front n was (x ∷ es) apart all =
+      by_mark x.kind x.mark all.0 (filled_round notify front n was es apart.2 all.1)
     where
       none : is_ticket x.ticket (round_fills es) ≡ false
       none = fills_none_else x.ticket es apart.1
 
       by_mark : (k : Kind) (m : Mark T) → was x.ticket ≡ is_filled m
-          → FilledBy (λ t. is_ticket t (round_fills es) || was t) (round tell front es)
+          → FilledBy (λ t. is_ticket t (round_fills es) || was t) (round notify front es)
           → FilledBy (λ t. is_ticket t (round_fills (record x { kind = k; mark = m } ∷ es)) || was t)
-          (round tell front (record x { kind = k; mark = m } ∷ es))
+          (round notify front (record x { kind = k; mark = m } ∷ es))
       by_mark Block Waiting h rest = (or_left _ _ (eq-eqb x.ticket x.ticket refl), filled_more was x.ticket es apart.1 all.1)
       by_mark Plain Waiting h rest = (h, all.1)
       by_mark Stream Waiting h rest = (rw none h, rest)

@@ -4,7 +4,7 @@ use Rattle.flume_model.proofs.Common.{◌≡◌, ℕ, ◌+◌, ◌<◌, ◌≤�
 use Rattle.flume_model.proofs.Common.{refl, sym, ◌∙◌, ap, subst, arith, inl, inr, ◌⊎◌, or_from, or_cases, and_parts, channel, is_over}
 use Rattle.flume_model.proofs.Common.{entry_of, next_ticket, queue, tickets_issued, issues, spends, is_live, Log, Opening, Takes, Collects}
 use Rattle.flume_model.proofs.Common.{filled_by, was_filled, is_ticket, change, entries_after, entries, is_closed_after, IsReply, IsRun}
-use Rattle.flume_model.proofs.Common.{EntriesApart, SidesApart, FilledIfNamed, Reply, Step, Poll, Withdraw, common_steps}
+use Rattle.flume_model.proofs.Common.{Apart, SidesApart, FilledIfNamed, Reply, Step, Poll, Withdraw, common_steps}
 use Rattle.flume_model.proofs.EntryMarkLemmas.{FilledBy, filled_found, none_past}
 use Rattle.flume_model.proofs.AskingCaseLemmas.{polled_cases, gone_cases}
 use Rattle.flume_model.proofs.LawfulReplyLemmas.{Fits, fits}
@@ -16,10 +16,10 @@ module _ {T : Type 0} where
   got_fills_none was t m = grind (arith, common_steps)
 
 module _ {T A : Type 0} where
-  -- a lawful reply tells as filled what its change fills
-  told_by : (o : Opening) (past : Log T A) (step : Step T) (reply : Reply T A) → IsReply (channel o past) step reply
+  -- a lawful reply names as filled what its change fills
+  named_is_filled : (o : Opening) (past : Log T A) (step : Step T) (reply : Reply T A) → IsReply (channel o past) step reply
       → filled_by reply ≡ fills (change past step reply)
-  told_by o past (Poll t) reply h =
+  named_is_filled o past (Poll t) reply h =
       polled_cases (channel o past) t (λ r. filled_by r ≡ fills (change past (Poll t) r)) reply h (record {
         unknown = refl;
         collects = λ e held found is. got_fills_none (was_filled past t) t held;
@@ -28,7 +28,7 @@ module _ {T A : Type 0} where
         ends = λ u empty. refl;
         refused = λ back. refl;
       })
-  told_by o past (Withdraw t) reply h =
+  named_is_filled o past (Withdraw t) reply h =
       gone_cases (channel o past) t (λ r. filled_by r ≡ fills (change past (Withdraw t) r)) reply h (record {
         unknown = refl;
         collects = λ e held found is. got_fills_none (was_filled past t) t held;
@@ -36,18 +36,18 @@ module _ {T A : Type 0} where
         fills_none = λ u closed empty. refl;
         passes_on = λ u closed. refl;
       })
-  told_by o past step reply h = grind (arith, common_steps)
+  named_is_filled o past step reply h = grind (arith, common_steps)
 
   -- what the entries of a run are
   pub record Entered (o : Opening) (log : Log T A) : Type 0 where
-    pub apart : EntriesApart o log
+    pub apart : Apart (next_ticket o log) (entries o log)
     pub marks : FilledBy (was_filled log) (entries o log)
     pub unfilled : (t : ℕ) → next_ticket o log ≤ t → was_filled log t ≡ false
     pub sides : SidesApart o log
 
   -- a receiver is filled exactly if a reply named its ticket as filled
-  pub told_in : (o : Opening) (log : Log T A) → Entered o log → FilledIfNamed o log
-  told_in o log h t e found = filled_found (was_filled log) t e (entries o log) h.marks found
+  pub entered_if_named : (o : Opening) (log : Log T A) → Entered o log → FilledIfNamed o log
+  entered_if_named o log h t e found = filled_found (was_filled log) t e (entries o log) h.marks found
 
   -- what the entries are after one more pair
   entered_more : (o : Opening) (past : Log T A) (p : Step T × Reply T A) → IsReply (channel o past) p.0 p.1 → Entered o past
@@ -55,18 +55,18 @@ module _ {T A : Type 0} where
   entered_more o past p reply h = by_case (is_over (p ∷ past)) refl
     where
       fit : Fits (channel o past) (change past p.0 p.1)
-      fit = fits o past p.0 p.1 (told_in o past h) reply
+      fit = fits o past p.0 p.1 (entered_if_named o past h) reply
 
       closes : Bool
       closes = not (is_closed_after past) && is_closed_after (p ∷ past)
 
-      told : filled_by p.1 ≡ fills (change past p.0 p.1)
-      told = told_by o past p.0 p.1 reply
+      named : filled_by p.1 ≡ fills (change past p.0 p.1)
+      named = named_is_filled o past p.0 p.1 reply
 
       unfilled_now : (t : ℕ) → next_ticket o (p ∷ past) ≤ t → was_filled (p ∷ past) t ≡ false
       unfilled_now t le =
           let none = none_past (next_ticket o past) t (entries o past) (omega arith) h.apart in
-          or_from _ _ (ap (is_ticket t) told ∙ fills_none (channel o past) (change past p.0 p.1) t fit none) (h.unfilled t (omega arith))
+          or_from _ _ (ap (is_ticket t) named ∙ fills_none (channel o past) (change past p.0 p.1) t fit none) (h.unfilled t (omega arith))
 
       FilledNow : Option ℕ → Type 0
       FilledNow f = FilledBy (λ t. is_ticket t f || was_filled past t)
@@ -74,7 +74,7 @@ module _ {T A : Type 0} where
 
       marks_now : FilledNow (filled_by p.1)
       marks_now =
-          subst FilledNow (sym told)
+          subst FilledNow (sym named)
           (filled_by_change (channel o past) closes (change past p.0 p.1) (was_filled past) fit h.apart h.unfilled h.marks)
 
       sides_now : (t : ℕ) → (issues (change past p.0 p.1) t || (is_live past t && not (spends (change past p.0 p.1) t))) ≡ true
@@ -107,10 +107,10 @@ module _ {T A : Type 0} where
 
   -- a receiver is filled exactly if a reply named its ticket as filled
   pub filled_if_named : (o : Opening) (log : Log T A) → IsRun o log → FilledIfNamed o log
-  filled_if_named o log run = told_in o log (entered o log run)
+  filled_if_named o log run = entered_if_named o log (entered o log run)
 
   -- the tickets of parked receivers are apart and below the next one
-  pub entries_apart : (o : Opening) (log : Log T A) → IsRun o log → EntriesApart o log
+  pub entries_apart : (o : Opening) (log : Log T A) → IsRun o log → Apart (next_ticket o log) (entries o log)
   entries_apart o log run = (entered o log run).apart
 
   -- no ticket is live of a send and of a receiver

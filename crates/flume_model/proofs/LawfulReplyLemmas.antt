@@ -46,18 +46,19 @@ module _ {T : Type 0} where
 
 module _ {T A : Type 0} where
   -- a filled receiver gets its message
-  collects : (o : Opening) (past : Log T A) (t : ℕ) (m held : T) (e : LogEntry T) → FilledIfNamed o past → entry_of t (entries o past) ≡ Some e
+  collects : (o : Opening) (past : Log T A) (t : ℕ) (m held : T) (e : LogEntry T) → FilledIfNamed o past
+      → entry_of t (entries o past) ≡ Some e
       → e.mark ≡ Filled held → Fits (channel o past) (if was_filled past t then Collects t else Takes m (Some t))
-  collects o past t m held e told found is =
-      let was : was_filled past t ≡ true = told t e found ∙ ap is_filled is in
+  collects o past t m held e named found is =
+      let was : was_filled past t ≡ true = named t e found ∙ ap is_filled is in
       rw was (e, held, found, is)
 
   -- one that isn't filled gets the front
   takes : (o : Opening) (past : Log T A) (t : ℕ) (m : T) (e : LogEntry T) → FilledIfNamed o past → entry_of t (entries o past) ≡ Some e
       → is_filled e.mark ≡ false → IsFront (channel o past) m
       → Fits (channel o past) (if was_filled past t then Collects t else Takes m (Some t))
-  takes o past t m e told found not_filled front =
-      let was : was_filled past t ≡ false = told t e found ∙ not_filled in
+  takes o past t m e named found not_filled front =
+      let was : was_filled past t ≡ false = named t e found ∙ not_filled in
       rw was (front, record { entry = e; found = found; empty = not_filled })
 
   -- one that isn't filled leaves if the line is empty
@@ -69,11 +70,11 @@ module _ {T A : Type 0} where
   -- a parked receiver that asks
   polled : (o : Opening) (past : Log T A) (t : ℕ) (reply : Reply T A) → FilledIfNamed o past
       → IsPolled (channel o past) (entry_of t (entries o past)) reply → Fits (channel o past) (change past (Poll t) reply)
-  polled o past t reply told h =
+  polled o past t reply named h =
       polled_cases (channel o past) t (λ r. Fits (channel o past) (change past (Poll t) r)) reply h (record {
         unknown = tt;
-        collects = λ e held found is. collects o past t held held e told found is;
-        takes = λ u m front. takes o past t m u.entry told u.found u.empty front;
+        collects = λ e held found is. collects o past t held held e named found is;
+        takes = λ u m front. takes o past t m u.entry named u.found u.empty front;
         waits_on = λ u woken. (u.entry, u.found, woken);
         ends = λ u empty. ends o past t u empty;
         refused = λ back. tt;
@@ -82,11 +83,11 @@ module _ {T A : Type 0} where
   -- a parked receiver that leaves
   gone : (o : Opening) (past : Log T A) (t : ℕ) (reply : Reply T A) → FilledIfNamed o past
       → IsGone (channel o past) t (entry_of t (entries o past)) reply → Fits (channel o past) (change past (Withdraw t) reply)
-  gone o past t reply told h =
+  gone o past t reply named h =
       gone_cases (channel o past) t (λ r. Fits (channel o past) (change past (Withdraw t) r)) reply h (record {
         unknown = tt;
-        collects = λ e held found is. collects o past t held held e told found is;
-        takes = λ u m front. takes o past t m u.entry told u.found u.empty front;
+        collects = λ e held found is. collects o past t held held e named found is;
+        takes = λ u m front. takes o past t m u.entry named u.found u.empty front;
         fills_none = λ u closed empty. ends o past t u empty;
         passes_on = λ u closed. (u, refl);
       })
@@ -94,11 +95,11 @@ module _ {T A : Type 0} where
   -- a lawful reply changes only what may change
   pub fits : (o : Opening) (past : Log T A) (step : Step T) (reply : Reply T A) → FilledIfNamed o past
       → IsReply (channel o past) step reply → Fits (channel o past) (change past step reply)
-  fits o past (PollSend t) Accepted told h = h
-  fits o past (PollSend t) (Returned m closed) told h = (m, h.0)
-  fits o past (Poll t) reply told h = polled o past t reply told h
-  fits o past (Withdraw t) reply told h = gone o past t reply told h
-  fits o past step reply told h = grind (arith, common_steps)
+  fits o past (PollSend t) Accepted named h = h
+  fits o past (PollSend t) (Returned m closed) named h = (m, h.0)
+  fits o past (Poll t) reply named h = polled o past t reply named h
+  fits o past (Withdraw t) reply named h = gone o past t reply named h
+  fits o past step reply named h = grind (arith, common_steps)
 
   -- if both sides have disconnected, no change that fits brings one back
   over_stays : (o : Opening) (past : Log T A) (done : Change T) → Fits (channel o past) done → senders past + receivers past ≡ 0
@@ -112,5 +113,5 @@ module _ {T A : Type 0} where
   -- once over, over for good
   pub not_over_yet : (o : Opening) (past : Log T A) (p : Step T × Reply T A) → FilledIfNamed o past → IsRun o (p ∷ past)
       → is_over (p ∷ past) ≡ false → is_over past ≡ false
-  not_over_yet o past p told run open_ =
-      grind (arith, common_steps, over_stays o past (change past p.0 p.1) (fits o past p.0 p.1 told run.0))
+  not_over_yet o past p named run open_ =
+      grind (arith, common_steps, over_stays o past (change past p.0 p.1) (fits o past p.0 p.1 named run.0))

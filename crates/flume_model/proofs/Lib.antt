@@ -20,7 +20,8 @@ pub mod WaitingCountLemmas
 pub mod WaitListLemmas
 -- What a change that fits does to the tickets of entries and to which of them are filled.
 pub mod EntryChangeLemmas
--- What the entries of each run are: their tickets are apart from one another and from those of sends, and they are filled if a reply says so.
+-- What the entries of each run are: their tickets are apart from one another and from those of sends, and they are filled if a reply
+-- says so.
 pub mod EntryShapeLemmas
 -- The shape of each run: what was kept and handed out, the line, tickets.
 pub mod order

@@ -1,10 +1,11 @@
 -- What setting the capacity leaves of a run.
-use Rattle.flume_model.proofs.Common.{◌≡◌, ℕ, ◌+◌, ◌<◌, ◌≤◌, Bool, true, false, not, ◌&&◌, ◌||◌, [], ◌∷◌, length, max, min, Option, Some, None}
+use Rattle.flume_model.proofs.Common.{◌≡◌, ℕ, ◌+◌, ◌<◌, ◌≤◌, Bool, true, false, not, ◌&&◌, ◌||◌, [], ◌∷◌}
+use Rattle.flume_model.proofs.Common.{length, max, min, Option, Some, None}
 use Rattle.flume_model.proofs.Common.{refl, ◌∙◌, ap, arith, cond-false, eqb, is_over, senders, receivers, IsOpen, IsBounded, Channel}
 use Rattle.flume_model.proofs.Common.{channel, line, capacity, capacity_after, boundary, is_live, Log, Opening, Change, Resizes}
 use Rattle.flume_model.proofs.Common.{change, IsRun, SetCapacity, Done, common_steps}
 use Rattle.std.specs.Prelude.{◌↔◌}
-use Rattle.flume_model.specs.Resized.{set_to, IsResized, queued_at, StaysBoundedOrNot}
+use Rattle.flume_model.specs.Resized.{set_to, IsResized, queued_at}
 use Rattle.flume_model.proofs.LawfulReplyLemmas.{Fits}
 use Rattle.flume_model.proofs.EntryShapeLemmas.{fits_run}
 use Rattle.flume_model.proofs.order.RunLemmas.{shape_of}
@@ -86,7 +87,7 @@ module _ {T : Type 0} where
 
 module _ {T A : Type 0} where
   -- a bounded channel stays so, and an unbounded one too
-  pub stays_bounded_or_not : (o : Opening) (log : Log T A) → IsRun o log → StaysBoundedOrNot o log
+  pub stays_bounded_or_not : (o : Opening) (log : Log T A) → IsRun o log → (capacity o log ≡ None) ↔ (o.capacity ≡ None)
   stays_bounded_or_not o [] run = (λ e. e, λ e. e)
   stays_bounded_or_not o (p ∷ past) run =
       let before = stays_bounded_or_not o past run.1 in

@@ -9,12 +9,10 @@ use Rattle.flume_model.specs.Limits.{HasRoom, IsAtCapacity, IsOpen}
 use Rattle.flume_model.specs.Entries.{some_wait}
 use Rattle.flume_model.specs.Parked.{LogEntry, entries}
 
--- what a reply is judged by
+-- what a reply is judged by; the fields are as the definitions of a log with these names
 pub record Channel (T : Type 0) : Type 0 where
   pub capacity : Option ℕ
-  -- the messages that weren't handed out yet, in order
   pub line : List T
-  -- how many of them are queued, these, and the offers of the others
   pub boundary : ℕ
   pub queue : List T
   pub blocked : List (Offer T)

@@ -50,23 +50,23 @@ module _ {T N : Type 0} where
   woken_count [] = 0
   woken_count (e ∷ entries) = (if is_woken e.mark then 1 else 0) + woken_count entries
 
-  -- the entry with another mark; `tell` makes its notice say so
+  -- the entry with another mark; `notify` makes its notice say so
   abbrev pub marked : (N → N) → Mark T → Entry T N → Entry T N
-  marked tell mark e = record e { mark = mark; notice = tell e.notice }
+  marked notify mark e = record e { mark = mark; notice = notify e.notice }
 
   -- a wake round at a waiting entry, with those behind it: `as_are`, or `goes_on` if it goes on
   abbrev pub round_at : (N → N) → Kind → T → Entry T N → List (Entry T N) → List (Entry T N)
       → List (Entry T N)
-  round_at tell Stream front e as_are goes_on = marked tell Woken e ∷ goes_on
-  round_at tell Block front e as_are goes_on = marked tell (Filled front) e ∷ as_are
-  round_at tell kind front e as_are goes_on = marked tell Woken e ∷ as_are
+  round_at notify Stream front e as_are goes_on = marked notify Woken e ∷ goes_on
+  round_at notify Block front e as_are goes_on = marked notify (Filled front) e ∷ as_are
+  round_at notify kind front e as_are goes_on = marked notify Woken e ∷ as_are
 
   -- a wake round: it ends at the first waiting entry that is no stream, which it fills or wakes
   abbrev pub round : (N → N) → T → List (Entry T N) → List (Entry T N)
-  round tell front [] = []
-  round tell front (e ∷ entries) =
-      if is_waiting e.mark then round_at tell e.kind front e entries (round tell front entries)
-      else e ∷ round tell front entries
+  round notify front [] = []
+  round notify front (e ∷ entries) =
+      if is_waiting e.mark then round_at notify e.kind front e entries (round notify front entries)
+      else e ∷ round notify front entries
 
   -- the ticket that a round fills, if it fills one
   abbrev pub round_fills : List (Entry T N) → Option ℕ
@@ -77,8 +77,8 @@ module _ {T N : Type 0} where
 
   -- a wake round if this is the queue; there is none if nothing is queued
   abbrev pub round_for : (N → N) → List T → List (Entry T N) → List (Entry T N)
-  round_for tell [] entries = entries
-  round_for tell (front ∷ queue) entries = round tell front entries
+  round_for notify [] entries = entries
+  round_for notify (front ∷ queue) entries = round notify front entries
 
   -- the ticket that this round fills, if it fills one
   abbrev pub round_for_fills : List T → List (Entry T N) → Option ℕ
@@ -87,7 +87,7 @@ module _ {T N : Type 0} where
 
   -- all that wait are woken
   abbrev pub all_woken : (N → N) → List (Entry T N) → List (Entry T N)
-  all_woken tell entries = map (λ e. if is_waiting e.mark then marked tell Woken e else e) entries
+  all_woken notify entries = map (λ e. if is_waiting e.mark then marked notify Woken e else e) entries
 
   -- the first entry with a ticket
   abbrev pub entry_of : ℕ → List (Entry T N) → Option (Entry T N)
@@ -122,8 +122,8 @@ module _ {T N : Type 0} where
 
   -- the other entries after the one with a ticket leaves, if this is the queue
   abbrev pub after_leave : (N → N) → ℕ → List T → List (Entry T N) → List (Entry T N)
-  after_leave tell t queue entries =
-      if passes_on (entry_of t entries) then round_for tell queue (without_ticket t entries)
+  after_leave notify t queue entries =
+      if passes_on (entry_of t entries) then round_for notify queue (without_ticket t entries)
       else without_ticket t entries
 
   -- the ticket that the wake which the leaving entry passes on fills, if it fills one

@@ -1,6 +1,7 @@
 -- What a receiver that was filled got, or still holds, and the message that a hand-out is of.
 use Rattle.std.specs.Prelude.{◌≡◌, ◌==◌, ℕ, Bool, true, false, if◌then◌else◌, List, [], ◌∷◌, Option}
 use Rattle.std.specs.Prelude.{Some, None}
+use Rattle.std.specs.Option.{option_or}
 use Rattle.flume_model.specs.declared.step.Step.{Step}
 use Rattle.flume_model.specs.declared.step.Step.TheVariants.{Poll, Withdraw}
 use Rattle.flume_model.specs.declared.step.Reply.{Reply}
@@ -11,13 +12,7 @@ use Rattle.flume_model.specs.Counts.{is_over}
 use Rattle.flume_model.specs.Entries.{entry_of, held_by}
 
 module _ {T : Type 0} where
-  -- the first of two, or if it isn't there, the second
-  abbrev pub or_else : Option T → Option T → Option T
-  or_else None second = second
-  or_else (Some message) second = Some message
-
-  -- a fill is of what its receiver got, or else of what its entry holds. If both sides
-  -- disconnected before the receiver got it, nothing is said of it
+  -- a fill is of what its receiver got, or else holds; not got once over, nothing is said of it
   abbrev pub FillIs : Bool → Option T → Option T → T → Type 0
   FillIs over (Some got) held message = got ≡ message
   FillIs true None held message = Unit {0}
@@ -33,7 +28,7 @@ module _ {T A : Type 0} where
   -- the message that the receiver parked under the ticket got, if it got one
   abbrev pub shown : Log T A → ℕ → Option T
   shown [] t = None
-  shown (p ∷ past) t = or_else (shows_to t p.0 p.1) (shown past t)
+  shown (p ∷ past) t = option_or (shows_to t p.0 p.1) (shown past t)
 
 module _ {T A N : Type 0} where
   -- the hand-out is of this message: it was shown, or the filled receiver got or holds it

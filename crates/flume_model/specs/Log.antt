@@ -30,11 +30,9 @@ pub record Offer (T : Type 0) : Type 0 where
   pub message : T
   pub ticket : Option ℕ
 
--- one message handed out
+-- one message handed out: the reply shows it, or it filled the receiver parked under this ticket
 pub data HandOut (T : Type 0) : Type 0 where
-  -- this one, which the reply shows
   Shown : T → HandOut T
-  -- the one that filled the receiver parked under this ticket
   FilledIn : ℕ → HandOut T
 
 -- what a step changes by its reply; most of what follows goes by these cases
@@ -49,7 +47,6 @@ pub data Change (T : Type 0) : Type 0 where
   Takes : T → Option ℕ → Change T
   Drains : List T → Change T
   Parks : ℕ → Kind → Change T
-  -- the receiver with this ticket asks, and waits on
   Asks : ℕ → Change T
   -- the receiver with this ticket, which was filled, leaves with its message
   Collects : ℕ → Change T

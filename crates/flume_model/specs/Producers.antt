@@ -4,9 +4,8 @@ use Rattle.std.specs.List.{slice_get}
 use Rattle.flume_model.specs.Log.{Log, Offer}
 use Rattle.flume_model.specs.Offers.{offers, withdrawn, kept, hand_outs}
 
--- each hand-out is of one of the offers, in their order; so it is of the offers of one producer
+-- each hand-out is of the offer at its place among all, in their order; so it is of one producer's
 pub record HandedOutInOrder {T A : Type 0} (log : Log T A) : Type 0 where
-  -- the place, among all offers, of the offer that each hand-out is of
   pub place : ℕ → ℕ
   pub is_kept : (j : ℕ) → j < hand_outs log
       → (offer : Offer T) × (slice_get (offers log) (place j) ≡ Some offer)

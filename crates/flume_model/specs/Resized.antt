@@ -1,5 +1,5 @@
 -- What setting the capacity leaves of a run.
-use Rattle.std.specs.Prelude.{◌≡◌, ℕ, ◌∷◌, length, max, min, Some, None, ◌↔◌}
+use Rattle.std.specs.Prelude.{◌≡◌, ℕ, ◌∷◌, length, max, min, Some}
 use Rattle.flume_model.specs.declared.step.Step.TheVariants.{SetCapacity}
 use Rattle.flume_model.specs.declared.step.Reply.TheVariants.{Done}
 use Rattle.flume_model.specs.Log.{Log, Opening}
@@ -23,7 +23,3 @@ module _ {T A : Type 0} where
   -- how many are queued once the capacity was set to this, at least as many as were
   abbrev pub queued_at : Opening → Log T A → ℕ → ℕ
   queued_at opening past new = max (boundary opening past) (min new (length (line past)))
-
-  -- an unbounded channel stays so, and a bounded one too
-  abbrev pub StaysBoundedOrNot : Opening → Log T A → Type 0
-  StaysBoundedOrNot opening log = (capacity opening log ≡ None) ↔ (opening.capacity ≡ None)

@@ -6,7 +6,7 @@ use Rattle.flume_model.specs.declared.step.Kind.{Kind}
 use Rattle.flume_model.specs.declared.step.Kind.TheVariants.{Block}
 use Rattle.flume_model.specs.declared.entry.Entry.{Entry}
 use Rattle.flume_model.specs.Log.{Log, Opening, was_filled}
-use Rattle.flume_model.specs.Counts.{senders, receivers, is_over}
+use Rattle.flume_model.specs.Counts.{senders, receivers}
 use Rattle.flume_model.specs.Line.{line, capacity, greatest, boundary, blocked, next_ticket}
 use Rattle.flume_model.specs.Line.{is_live}
 use Rattle.flume_model.specs.Limits.{IsAtCapacity, IsOpen, IsClosed}
@@ -57,12 +57,6 @@ module _ {T A : Type 0} where
     pub queued :
         boundary opening log + waiting_count (entries opening log) ≡ max limit (peak opening log)
 
-  -- a receiver waits only in an open channel, and only while no sender is blocked
-  abbrev pub WaitsWhileOpen : Opening → Log T A → Type 0
-  WaitsWhileOpen opening log =
-      some_wait (entries opening log) ≡ true
-      → IsOpen (senders log) (receivers log) × (blocked opening log ≡ [])
-
   -- nobody waits for a message or for room that is there
   pub record NobodyStuck (opening : Opening) (log : Log T A) : Type 0 where
     pub waiting_receivers :
@@ -79,10 +73,6 @@ module _ {T A : Type 0} where
       block_woken (entries opening log) ≡ true
       → IsClosed (senders log) (receivers log) × (blocked opening log ≡ [])
 
-  -- the tickets of parked receivers are apart and below the next one
-  abbrev pub EntriesApart : Opening → Log T A → Type 0
-  EntriesApart opening log = Apart (next_ticket opening log) (entries opening log)
-
   -- no ticket is live of a send and of a receiver
   abbrev pub SidesApart : Opening → Log T A → Type 0
   SidesApart opening log =
@@ -94,9 +84,3 @@ module _ {T A : Type 0} where
   FilledIfNamed opening log =
       (t : ℕ) (e : LogEntry T) → entry_of t (entries opening log) ≡ Some e
       → was_filled log t ≡ is_filled e.mark
-
-  -- once both sides have disconnected, nothing is left
-  abbrev pub NothingOnceOver : Opening → Log T A → Type 0
-  NothingOnceOver opening log =
-      is_over log ≡ true
-      → (line log ≡ []) × (entries opening log ≡ []) × ((t : ℕ) → is_live log t ≡ false)

@@ -14,7 +14,7 @@ module _ {T N : Type 0} where
   IsPassed e = is_waiting e.mark ≡ true → e.kind ≡ Stream
 
   -- a round that ends at one of the old entries leaves the new ones, and fills this ticket, if any
-  pub record EndsAtOne (tell : N → N) (front : T) (old new : List (Entry T N))
+  pub record EndsAtOne (notify : N → N) (front : T) (old new : List (Entry T N))
       (filled : Option ℕ) : Type 0 where
     pub before : List (Entry T N)
     pub first : Entry T N
@@ -24,18 +24,18 @@ module _ {T N : Type 0} where
     pub waits : is_waiting first.mark ≡ true
     pub no_stream : first.kind ≢ Stream
     pub new_are :
-        new ≡ all_woken tell before
-        ++ marked tell (if is_block first.kind then Filled front else Woken) first ∷ later
+        new ≡ all_woken notify before
+        ++ marked notify (if is_block first.kind then Filled front else Woken) first ∷ later
     pub fills : filled ≡ (if is_block first.kind then Some first.ticket else None)
 
   -- a round that ends at none of the old entries leaves the new ones, and fills no ticket
-  pub record EndsAtNone (tell : N → N) (old new : List (Entry T N)) (filled : Option ℕ)
+  pub record EndsAtNone (notify : N → N) (old new : List (Entry T N)) (filled : Option ℕ)
       : Type 0 where
     pub passed : All IsPassed old
-    pub new_are : new ≡ all_woken tell old
+    pub new_are : new ≡ all_woken notify old
     pub fills : filled ≡ None
 
   -- a wake round with this front makes the old entries the new ones, and fills this ticket, if any
   abbrev pub IsWakeRound : (N → N) → T → List (Entry T N) → List (Entry T N) → Option ℕ → Type 0
-  IsWakeRound tell front old new filled =
-      EndsAtOne tell front old new filled ⊎ EndsAtNone tell old new filled
+  IsWakeRound notify front old new filled =
+      EndsAtOne notify front old new filled ⊎ EndsAtNone notify old new filled

@@ -1,6 +1,5 @@
-//! What a channel is, as definitions. `specs/` defines which reply to a step is lawful; a *run* is
-//! a list of steps with lawful replies. `laws` has what holds of each run. The repository's
-//! docs/MODEL.md tells all of it in words.
+//! What a channel is: which reply to a step is lawful, and what holds of each *run*, a list of
+//! steps with lawful replies. The repository's docs/MODEL.md says all of it in words.
 #![tactic(auto)]
 
 pub mod entry;

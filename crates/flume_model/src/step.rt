@@ -2,31 +2,26 @@
 
 use std::alloc::{Allocator, Global};
 
-/// How a parked receiver receives, and so how a wake round treats it.
+/// How a parked receiver receives. A wake round fills one that sleeps (`Block`) with the queue's
+/// front, and wakes a future, a stream or a selector's arm; it goes on only after a stream.
 #[derive(Clone, Copy, Debug, PartialEq, Eq, Drop)]
 pub enum Kind {
-    /// It sleeps: a wake round fills it with the front of the queue, and ends.
     Block,
-    /// A future of one message: a wake round wakes it and ends.
     Plain,
-    /// A stream of messages: a wake round wakes it and goes on.
     Stream,
-    /// An arm of a selector: a wake round wakes it and ends.
     Arm,
 }
 
-/// One step of one party, with the message that it hands in. `TrySend` and `TryRecv` never wait.
+/// One step of one party. `Send` may block and `Recv` may park; `TrySend` and `TryRecv` never wait.
 #[derive(Clone, Copy, Debug, PartialEq, Eq, Drop)]
 pub enum Step<T> {
     TrySend(T),
-    /// Offer a message, and block if it isn't taken in at once.
     Send(T),
     /// Ask for the state of the blocked send with this ticket.
     PollSend(u64),
     /// Take back the message of the blocked send with this ticket.
     WithdrawSend(u64),
     TryRecv,
-    /// Ask for the message at the front, and park if there is none.
     Recv(Kind),
     /// Ask again, as the receiver parked under this ticket.
     Poll(u64),
@@ -77,7 +72,6 @@ pub enum Reply<T, A: Allocator = Global> {
     Empty,
     /// The channel is closed and has no message.
     Ended,
-    /// The receiver is parked under this ticket.
     Parked(u64),
     /// The parked receiver left with no message; its wake filled the receiver `filled`, if any.
     Gone { closed: bool, filled: Option<u64> },

@@ -7,22 +7,22 @@ use Rattle.flume_model.specs.declared.step.Reply.TheVariants.{Sent, Got, Parked,
 use Rattle.flume_model.specs.Log.{FilledIn, opens}
 use Rattle.flume_model.specs.Parked.{entries}
 use Rattle.flume_model.specs.Fills.{IsOf}
-use Rattle.flume_model_examples.specs.Rows.{Row, as_log}
+use Rattle.flume_model_examples.specs.Rows.{Row, as_log, Runs}
 
 -- after a row of an unbounded channel the fill of this receiver is of the message
 abbrev pub IsFillOf : Row → ℕ → ℕ → Type 0
 IsFillOf row ticket message =
     IsOf (entries (opens None 1) (as_log [] row)) (as_log [] row) (FilledIn ticket) message
 
--- the fill of this receiver is of this message, and of no other
+-- the row is a run, and the fill of this receiver is of this message, and of no other
 abbrev pub IsFillOfOnly : Row → ℕ → ℕ → Type 0
 IsFillOfOnly row ticket message =
-    IsFillOf row ticket message
+    Runs None row × IsFillOf row ticket message
     × ((other : ℕ) → IsFillOf row ticket other → other ≡ message)
 
--- nothing is said of the message of this receiver's fill
+-- the row is a run, and nothing is said of the message of this receiver's fill
 abbrev pub IsLeftOut : Row → ℕ → Type 0
-IsLeftOut row ticket = (message : ℕ) → IsFillOf row ticket message
+IsLeftOut row ticket = Runs None row × ((message : ℕ) → IsFillOf row ticket message)
 
 -- a receiver is filled, and holds its message
 abbrev pub holds : Row

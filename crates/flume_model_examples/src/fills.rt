@@ -1,23 +1,10 @@
 //! What the definition of a fill says after worked logs in which receivers are filled.
-ghost use Rattle.std.specs.Prelude.{None};
-ghost use Rattle.flume_model_examples.specs.Rows.{Runs};
 ghost use Rattle.flume_model_examples.specs.FillRows.{IsFillOfOnly, IsLeftOut, holds, collects};
 ghost use Rattle.flume_model_examples.specs.FillRows.{leaves, holds_when_closed, two_filled};
 ghost use Rattle.flume_model_examples.specs.FillRows.{collects_before_the_end, holds_until_the_end};
 ghost use Rattle.flume_model_examples.specs.FillRows.{filled_with_front, wake_passed_on};
 
-/// Worked rows in which receivers are filled are runs.
-pub fn fill_rows_are_runs()
-    ensures holds { Runs None holds }
-    ensures collects { Runs None collects }
-    ensures leaves { Runs None leaves }
-    ensures holds_when_closed { Runs None holds_when_closed }
-    ensures two_filled { Runs None two_filled }
-    ensures collects_before_the_end { Runs None collects_before_the_end }
-    ensures holds_until_the_end { Runs None holds_until_the_end }
-{}
-
-/// After such a row a fill is of one message, or of any if it wasn't collected before the end.
+/// After each of these runs a fill is of one message, or of any if not collected before the end.
 pub fn fills_are_of_what_was_handed_out()
     ensures holds { IsFillOfOnly holds 1 7 }
     ensures collects { IsFillOfOnly collects 1 7 }

@@ -1,6 +1,4 @@
-//! Records the calls of threads on a channel: when each began and returned, and its answer. Each
-//! thread calls a `Recorder`; at the end `Recording::events` merges what they recorded, and
-//! `write_recording` writes it as text.
+//! Records the calls of threads on a channel: when each began and returned, and its answer.
 //! ```
 //! let recording = Recording::new(rt.alloc())?;
 //! let (tx, rx) = flume::on(rt).bounded(1)?;

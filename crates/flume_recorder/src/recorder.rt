@@ -89,7 +89,6 @@ impl<T: Copy + Drop, A: Allocator + Copy> Recorder<T, A> {
         self.push_event(returned, Event::Returns { thread, answer });
     }
 
-    // `None`: an allocation failed.
     pub(crate) fn begin_future(&mut self, call: Call<T>) -> Option<SlotWriter<T, A>>
         ensures begun { BeginsFuture self.old self.new call }
     {

@@ -1,6 +1,6 @@
 //! Recordings, written as text.
 ghost use Rattle.std.specs.Prelude.{◌≡◌, ◌++◌, IfOk, OnOk};
-ghost use Rattle.flume_recording.specs.EventLines as spec;
+ghost use Rattle.flume_concurrent.specs.Explanations as spec;
 ghost use Rattle.flume_recorder.specs.Texts.{line_text, opening_text, recording_text};
 
 use flume_concurrent::event::Event;

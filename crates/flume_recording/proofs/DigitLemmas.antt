@@ -1,20 +1,14 @@
 -- What the digits of a printed number are.
 use Rattle.std.proofs.Common.{◌≡◌, ℕ, zero, suc, ◌<◌, ◌^◌, Bool, true, false, Option, None, Some, MatchOption, List, [], ◌∷◌, length}
 use Rattle.std.proofs.Common.{get_or, eqb, refl, sym, subst, ap, ◌∙◌, arith, rules}
-use Rattle.std.specs.Str.{IsUtf8}
 use Rattle.std.specs.Option.{SomeIff}
 use Rattle.std.specs.Fmt.{decimal}
 use Rattle.std.specs.Str.Parse.{IsNumeral, AllDigits, digits_value}
 use Rattle.std.proofs.lemmas.Bool.Decides.{nat_tests}
 use Rattle.std.proofs.lemmas.Fmt.{decimal_is_IsNumeral, decimal-digits_value, decimal_digit, first_decimal}
 use Rattle.std.proofs.lemmas.Str.Parse.{numerals_by_value, tells_digits}
-use Rattle.flume_script.proofs.ScriptNumberLemmas.{numeral_is_text as is_text}
 use Rattle.flume_recording.specs.Texts.{FitsWord}
 use Rattle.flume_recording.proofs.CutLemmas.{Without, Lacks, without}
-
--- a numeral is text
-pub numeral_is_text : (digits : List ℕ) → IsNumeral 10 digits → IsUtf8 digits
-numeral_is_text digits numeral = is_text digits numeral
 
 -- digits have no space
 digits_lack : (digits : List ℕ) → AllDigits 10 digits → Lacks 32 digits

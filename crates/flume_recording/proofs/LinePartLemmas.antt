@@ -99,7 +99,8 @@ same_begins name text name' text' named named' e =
 same_returns : (name text name' text' : List ℕ) → IsName name → IsName name' → returns_line name text ≡ returns_line name' text'
     → text ≡ text'
 same_returns name text name' text' named named' e =
-    append_cancel_left (codes "-> ") text text' (returns_cut name (codes "-> " ++ text) name' text' named.no_space named' (sym (at_arrow name text) ∙ e)).1
+    append_cancel_left (codes "-> ") text text' (returns_cut name (codes "-> " ++ text) name' text' named.no_space named'
+    (sym (at_arrow name text) ∙ e)).1
 
 -- no line is both
 not_both : (name text name' text' : List ℕ) → IsName name → IsName name' → begins_line name text ≡ returns_line name' text' → ⊥

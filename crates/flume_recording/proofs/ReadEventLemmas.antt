@@ -6,10 +6,11 @@ use Rattle.std.specs.Str.Lines.{lines}
 use Rattle.std.proofs.lemmas.List.{append_assoc, length_push}
 use Rattle.flume_concurrent.specs.declared.event.Event.{Event}
 use Rattle.flume_concurrent.specs.declared.event.Event.TheVariants.{Begins, Returns}
+use Rattle.flume_concurrent.specs.Explanations.{thread_of}
 use Rattle.flume_script.proofs.ScriptStepLemmas.{length_all_zip, all_zip_push}
 use Rattle.flume_recording.specs.declared.fault.Fault.{Fault}
 use Rattle.flume_recording.specs.Texts.{call_text, answer_text, IsNumberOf}
-use Rattle.flume_recording.specs.EventLines.{IsEventLine, IsFault, IsName, thread_of, name_of, begins_line, returns_line}
+use Rattle.flume_recording.specs.EventLines.{IsEventLine, IsFault, IsName, name_of, begins_line, returns_line}
 use Rattle.flume_recording.specs.Recordings.{AreNumbered, AreReadByCalls, AreEventLines, IsReadBy, EventsUpTo, asking_after, asks_capacity}
 use Rattle.flume_recording.specs.NextEvents.{IsNextEvent}
 use Rattle.flume_recording.proofs.LinePartLemmas.{no_event}

@@ -55,7 +55,8 @@ pub none_read : (text : List ℕ) → ReadNumbers text [] text
 none_read text = record { parts = refl; fit = no_numbers; others = λ all fit e. (all, fit, e) }
 
 -- after one more number
-pub one_more : {whole list : List ℕ} (numbers digits : List ℕ) (later : Option (Bor (List ℕ))) (n : ℕ) → ReadNumbers whole list (32 ∷ numbers)
+pub one_more : {whole list : List ℕ} (numbers digits : List ℕ) (later : Option (Bor (List ℕ))) (n : ℕ)
+    → ReadNumbers whole list (32 ∷ numbers)
     → numbers ≡ digits ++ behind_space later → Without 32 digits → digits ≡ decimal n → FitsWord n
     → ReadNumbers whole (list ++ n ∷ []) (behind_space later)
 one_more {whole} {list} numbers digits later n read parts none is fits = record {

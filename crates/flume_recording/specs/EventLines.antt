@@ -4,6 +4,7 @@ use Rattle.std.specs.Prelude.{slice_index_or}
 use Rattle.std.specs.List.{All}
 use Rattle.flume_concurrent.specs.declared.event.Event.{Event}
 use Rattle.flume_concurrent.specs.declared.event.Event.TheVariants.{Begins, Returns}
+use Rattle.flume_concurrent.specs.Explanations.{thread_of}
 use Rattle.flume_recording.specs.declared.fault.Fault.{Fault}
 use Rattle.flume_recording.specs.declared.fault.Fault.TheVariants.{NoEvent, NoCall, NoAnswer}
 use Rattle.flume_recording.specs.declared.parts.Parts.{Parts}
@@ -30,11 +31,6 @@ abbrev pub name_of : List (List ℕ) → ℕ → List ℕ
 name_of names thread = slice_index_or names thread []
 
 module _ {A : Type 0} where
-  -- the thread of an event
-  abbrev pub thread_of : Event ℕ A → ℕ
-  thread_of (Begins thread call) = thread
-  thread_of (Returns thread answer) = thread
-
   -- the text of an event
   abbrev pub event_text : List (List ℕ) → Event ℕ A → List ℕ
   event_text names (Begins thread call) = begins_line (name_of names thread) (call_text call)

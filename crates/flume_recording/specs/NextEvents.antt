@@ -2,7 +2,8 @@
 use Rattle.std.specs.Prelude.{◌≡◌, ℕ, ◌<◌, ◌⊎◌, Bool, false, List, [], ◌∷◌, ◌++◌, length}
 use Rattle.std.specs.Prelude.{slice_index_or}
 use Rattle.flume_concurrent.specs.declared.event.Event.{Event}
-use Rattle.flume_recording.specs.EventLines.{IsEventLine, name_of, thread_of}
+use Rattle.flume_concurrent.specs.Explanations.{thread_of}
+use Rattle.flume_recording.specs.EventLines.{IsEventLine, name_of}
 use Rattle.flume_recording.specs.Recordings.{asking_after, IsReadBy}
 
 -- whether the last call of the thread asked for the capacity, by this list

@@ -8,14 +8,13 @@ use Rattle.flume_concurrent.specs.declared.call.Call.{Call}
 use Rattle.flume_concurrent.specs.declared.call.Call.TheVariants.{Capacity as AskCapacity}
 use Rattle.flume_concurrent.specs.declared.event.Event.{Event}
 use Rattle.flume_concurrent.specs.declared.event.Event.TheVariants.{Begins, Returns}
+use Rattle.flume_concurrent.specs.Explanations.{thread_of}
 use Rattle.flume_script.specs.Script.{IsOpeningLine, IsNoOpening}
 use Rattle.flume_recording.specs.declared.fault.Fault.{Fault}
 use Rattle.flume_recording.specs.declared.fault.Fault.TheVariants.{NoOpening}
-use Rattle.flume_recording.specs.declared.recording.Lines.{Lines}
-use Rattle.flume_recording.specs.declared.recording.Lines.TheVariants as lines_read
 use Rattle.flume_recording.specs.declared.recording.Recording.{Recording}
 use Rattle.flume_recording.specs.declared.recording.Recording.TheVariants.{Right, Wrong}
-use Rattle.flume_recording.specs.EventLines.{IsEventLine, IsNoEvent, IsFault, name_of, thread_of}
+use Rattle.flume_recording.specs.EventLines.{IsEventLine, IsNoEvent, IsFault, name_of}
 use Rattle.flume_recording.specs.Texts.{IsNumberOf}
 
 -- whether a call asks for the capacity
@@ -94,17 +93,6 @@ IsFirstWrongEvent A (first ∷ rest) number fault =
 -- the names that these borrow
 abbrev pub names_of : List (Bor (List ℕ)) → List (List ℕ)
 names_of names = map (λ name. name.now) names
-
--- the lines of the bytes are these events, or this many of them are, and the next one is none
-abbrev pub IsLinesReading : {A : Type 0} → List ℕ → Lines A → Type 0
-IsLinesReading input (lines_read.Right events names) =
-    AreEventLines (lines input) events.items (names_of names.items)
-IsLinesReading {A} input (lines_read.Wrong place fault) = EventsUpTo A (lines input) place fault
-
--- if a line is no event, fewer than this many are before it
-abbrev pub IsWrongWithin : {A : Type 0} → Lines A → ℕ → Type 0
-IsWrongWithin (lines_read.Wrong place fault) count = place < count
-IsWrongWithin _ count = Unit {0}
 
 -- the bytes are a recording of these events, or this line of them is the first wrong
 abbrev pub IsRecordingReading : {A : Type 0} → List ℕ → Recording A → Type 0

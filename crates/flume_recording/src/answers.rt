@@ -70,8 +70,7 @@ fn short_answer<A: Allocator>(text: &[u8], asks: bool) -> Option<Answer<u64, A>>
     }
 }
 
-/// The answer of a text, if any: a number is a capacity if the call `asks` for one. `NoMemory`: a
-/// list couldn't be allocated.
+/// Reads an answer, a number as a capacity if the call `asks` for one. `NoMemory`: none for a list.
 /// ```
 /// answer_of(alloc, b"got 7", false)?;    // Some(Got(7))
 /// answer_of(alloc, b"7", true)?;         // Some(Capacity(Some(7)))

@@ -1,6 +1,5 @@
-//! Recordings, as text, of calls that threads made on a channel. The first line opens the channel:
-//! `unbounded`, or `bounded N`. Each further line is an event, in the order of time: `THREAD: CALL`
-//! if a call begins, and `THREAD -> ANSWER` if it returns. A thread's name has no space or colon.
+//! Recordings of calls as text: `unbounded` or `bounded N`, then a line for each event in order,
+//! `THREAD: CALL` as a call begins, `THREAD -> ANSWER` as it returns. A name has no space or colon.
 #![tactic(auto)]
 
 pub mod answers;

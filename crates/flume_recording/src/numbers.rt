@@ -1,29 +1,13 @@
 //! Reads numbers as they are printed, with no sign and no zero in front.
-ghost use Rattle.std.specs.Prelude.{SomeIff, MatchOption, IfOk, ◌≡◌, ◌==◌, ◌++◌, ℕ, ◌^◌, ◌<◌};
-ghost use Rattle.std.specs.Prelude.{false, List};
+ghost use Rattle.std.specs.Prelude.{MatchOption, IfOk, ◌≡◌, ◌==◌, ◌++◌, ℕ, false, List};
 ghost use Rattle.std.specs.List.{All};
 ghost use Rattle.std.specs.Fmt.{decimal};
-ghost use Rattle.std.specs.Str.Parse.{IsNumeral, digits_value};
 ghost use Rattle.flume_script.specs.ReplyTexts.{spaced};
 ghost use Rattle.flume_recording.specs.Texts.{FitsWord, behind_space};
 
 use flume_error::error::NoMemory;
-use flume_script::reading::part_at;
+use flume_script::reading::{number, part_at};
 use std::alloc::{AllocError, Allocator};
-use std::str;
-
-#[tactic(auto, using(crate::proofs::DigitLemmas::numeral_is_text))]
-fn value_of(digits: &[u8]) -> Option<u64>
-    ensures value { SomeIff result
-        (IsNumeral 10 digits.now × (digits_value 10 digits.now < 2 ^ 64))
-        (digits_value 10 digits.now) }
-{
-    if digits.starts_with(b"+") {
-        return None;
-    }
-    let text = str::from_utf8(digits).ok()?;
-    text.parse::<u64>().ok()
-}
 
 pub(crate) fn number_of(text: &[u8]) -> Option<u64>
     ensures value { MatchOption result ((n : ℕ) → FitsWord n → ¬ (text.now ≡ decimal n))
@@ -32,7 +16,7 @@ pub(crate) fn number_of(text: &[u8]) -> Option<u64>
     if text.len() > 1 && text[0] == b'0' {
         return None;
     }
-    value_of(text)
+    number(text)
 }
 
 pub(crate) fn numbers_of<A: Allocator + Copy>(

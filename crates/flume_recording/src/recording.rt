@@ -1,9 +1,10 @@
 //! Reads recordings to events.
-ghost use Rattle.std.specs.Prelude.{IfOk, ◌≡◌, length};
+ghost use Rattle.std.specs.Prelude.{IfErr, IfOk, ◌≡◌, ◌<◌, length};
+ghost use Rattle.std.specs.Str.Lines.{lines};
 ghost use Rattle.flume_recording.specs.declared.fault.Fault.TheVariants.{NoOpening};
 ghost use Rattle.flume_recording.specs.declared.recording.Recording.TheVariants.{Wrong};
-ghost use Rattle.flume_recording.specs.Recordings.{IsLinesReading, IsRecordingReading};
-ghost use Rattle.flume_recording.specs.Recordings.{IsWrongWithin};
+ghost use Rattle.flume_recording.specs.Recordings.{AreEventLines, EventsUpTo, names_of};
+ghost use Rattle.flume_recording.specs.Recordings.{IsRecordingReading};
 
 use crate::fault::Fault;
 use crate::threads::Threads;
@@ -12,53 +13,43 @@ use flume_error::error::NoMemory;
 use flume_script::reading::{next_line, opening_of};
 use std::alloc::{AllocError, Allocator};
 
-/// A recording, or its first wrong line.
+/// A recording, with `None` as its capacity if it is unbounded and the names by the numbers of the
+/// threads, or its first wrong line, counted from 1.
 #[derive(Drop)]
 pub enum Recording<'s, A: Allocator> {
     Right {
-        /// `None` if unbounded.
         capacity: Option<usize>,
         events: Vec<Event<u64, A>, A>,
-        /// By the numbers of the threads.
         names: Vec<&'s [u8], A>,
     },
     Wrong {
-        /// Counted from 1.
         line: usize,
         fault: Fault,
     },
 }
 
-#[derive(Drop)]
-enum Lines<'s, A: Allocator> {
-    Right {
-        events: Vec<Event<u64, A>, A>,
-        names: Vec<&'s [u8], A>,
-    },
-    Wrong {
-        place: usize,
-        fault: Fault,
-    },
-}
+type Events<'s, A> = (Vec<Event<u64, A>, A>, Vec<&'s [u8], A>);
 
-fn read_events<A: Allocator + Copy>(alloc: A, mut rest: &[u8]) -> Result<Lines<'_, A>, NoMemory>
-    ensures value { IfOk result (λ read. IsLinesReading rest.now read) }
-    ensures within { IfOk result (λ read. IsWrongWithin read (length rest.now)) }
+fn read_events<A: Allocator + Copy>(
+    alloc: A,
+    mut rest: &[u8],
+) -> Result<Result<Events<'_, A>, (usize, Fault)>, NoMemory>
+    ensures right { IfOk result (λ r. IfOk r (λ read.
+        AreEventLines (lines rest.now) read.0.items (names_of read.1.items))) }
+    ensures wrong { IfOk result (λ r. IfErr r (λ wrong.
+        EventsUpTo A (lines rest.now) wrong.0 wrong.1 × (wrong.0 < length rest.now))) }
 {
     let mut events = Vec::new(alloc);
     let mut threads = Threads::new(alloc);
     while let Some((line, later)) = next_line(rest) {
         match threads.read(alloc, line)? {
             Ok(event) => events.push(event).map_err(AllocError::from)?,
-            Err(fault) => {
-                let place = events.len();
-                return Ok(Lines::Wrong { place, fault });
-            }
+            Err(fault) => return Ok(Err((events.len(), fault))),
         }
         rest = later;
     }
     let Threads { names, asking: _ } = threads;
-    Ok(Lines::Right { events, names })
+    Ok(Ok((events, names)))
 }
 
 fn unopened<'s, A: Allocator>() -> Recording<'s, A>
@@ -72,11 +63,12 @@ fn unopened<'s, A: Allocator>() -> Recording<'s, A>
 
 /// Reads a recording up to its first wrong line, in time linear in its length, and for each line in
 /// the number of threads. `NoMemory`: an allocation failed.
-///
-///     read_recording(alloc, b"unbounded\na: len\na -> 0\n")?;
-///     // Right { capacity: None, names: ["a"], events: [Begins { thread: 0, call: Len },
-///     //     Returns { thread: 0, answer: Number(0) }] }
-///     read_recording(alloc, b"unbounded\na: length\n")?;    // Wrong { line: 2, fault: NoCall }
+/// ```
+/// let right = read_recording(alloc, b"unbounded\na: len\na -> 0\n")?;
+/// matches!(right, Recording::Right { capacity: None, .. });               // true
+/// let wrong = read_recording(alloc, b"unbounded\na: length\n")?;
+/// matches!(wrong, Recording::Wrong { line: 2, fault: Fault::NoCall });    // true
+/// ```
 pub fn read_recording<A: Allocator + Copy>(
     alloc: A,
     input: &[u8],
@@ -90,12 +82,12 @@ pub fn read_recording<A: Allocator + Copy>(
         return Ok(unopened());
     };
     match read_events(alloc, rest)? {
-        Lines::Right { events, names } => Ok(Recording::Right {
+        Ok((events, names)) => Ok(Recording::Right {
             capacity,
             events,
             names,
         }),
-        Lines::Wrong { place, fault } => Ok(Recording::Wrong {
+        Err((place, fault)) => Ok(Recording::Wrong {
             line: place + 2,
             fault,
         }),

@@ -15,11 +15,9 @@ use flume_concurrent::event::Event;
 use flume_error::error::NoMemory;
 use std::alloc::{AllocError, Allocator};
 
-/// In the order of the threads' numbers.
 #[derive(Drop)]
 pub(crate) struct Threads<'s, A: Allocator> {
     pub(crate) names: Vec<&'s [u8], A>,
-    // Whether the last call of each asked for the capacity.
     pub(crate) asking: Vec<bool, A>,
     ghost as_many: { length names.items ≤ length asking.items },
 }

@@ -9,8 +9,7 @@ use flume_concurrent::event::Event;
 use flume_error::error::NoMemory;
 use std::alloc::Allocator;
 
-/// The text of an event, without a line feed. A thread without a name has an empty one. `NoMemory`:
-/// the text couldn't be allocated.
+/// The text of an event, without a line feed; a missing name is empty. `NoMemory`: none for it.
 /// ```
 /// let event = Event::Begins { thread: 0, call: Call::Send(7) };
 /// write_event(alloc, &[b"a"], &event)?;    // "a: send 7"

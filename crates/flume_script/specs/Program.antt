@@ -18,7 +18,6 @@ pub record Answers (A : Type 0) (input text : List ℕ) (status : ℕ) : Type 0 
   pub reads : IsScript IsStepLine (lines input) capacity steps
   pub one_each : length replies ≡ length steps
   pub run : IsRun (record { capacity = capacity; first = 1 }) (after [] steps replies)
-  -- a `Chan` replies so, `NoMemory` only to a step that needs memory
   pub last : State ℕ (Unit {0})
   pub transitions :
       AreTransitions (new_state (record { capacity = capacity; first = 1 })) steps replies last

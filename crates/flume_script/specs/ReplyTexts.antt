@@ -1,5 +1,5 @@
 -- The text of each reply.
-use Rattle.std.specs.Prelude.{ℕ, true, false, List, [], ◌∷◌, ◌++◌, Option, Some, None, Bool, codes}
+use Rattle.std.specs.Prelude.{ℕ, true, false, List, [], ◌∷◌, ◌++◌, Some, None, codes}
 use Rattle.std.specs.Fmt.{decimal}
 use Rattle.flume_model.specs.declared.step.Reply.{Reply}
 use Rattle.flume_model.specs.declared.step.Reply.TheVariants.{Sent, Full, Closed, NoMemory, Spent}
@@ -13,13 +13,6 @@ use Rattle.flume_model.specs.declared.step.Reply.TheVariants.{Capacity as Bound,
 abbrev pub spaced : List ℕ → List ℕ
 spaced [] = []
 spaced (message ∷ messages) = 32 ∷ (decimal message ++ spaced messages)
-
--- the text of a parked receiver that left
-abbrev pub gone_text : Bool → Option ℕ → List ℕ
-gone_text false None = codes "gone"
-gone_text true None = codes "gone closed"
-gone_text false (Some ticket) = codes "gone filled " ++ decimal ticket
-gone_text true (Some ticket) = codes "gone closed filled " ++ decimal ticket
 
 -- the text of a reply
 abbrev pub reply_text : {A : Type 0} → Reply ℕ A → List ℕ
@@ -41,7 +34,10 @@ reply_text (Got message) = codes "got " ++ decimal message
 reply_text Empty = codes "empty"
 reply_text Ended = codes "ended"
 reply_text (Parked ticket) = codes "parked " ++ decimal ticket
-reply_text (Gone closed filled) = gone_text closed filled
+reply_text (Gone false None) = codes "gone"
+reply_text (Gone true None) = codes "gone closed"
+reply_text (Gone false (Some ticket)) = codes "gone filled " ++ decimal ticket
+reply_text (Gone true (Some ticket)) = codes "gone closed filled " ++ decimal ticket
 reply_text (Drained list) = codes "drained" ++ spaced list.items
 reply_text Done = codes "done"
 reply_text NoEnd = codes "noend"

@@ -28,36 +28,41 @@ abbrev pub IsOpeningLine : List ℕ → Option ℕ → Type 0
 IsOpeningLine line None = line ≡ codes "unbounded"
 IsOpeningLine line (Some capacity) = IsWordWithNumber line (codes "bounded ") capacity
 
--- the name of a kind of receiver
-abbrev pub kind_name : Kind → List ℕ
-kind_name Block = codes "block"
-kind_name Plain = codes "plain"
-kind_name Stream = codes "stream"
-kind_name Arm = codes "arm"
+-- the word of a step, or the two of one that parks, and the number behind it, if any
+abbrev pub step_parts : Step ℕ → List ℕ × Option ℕ
+step_parts (TrySend message) = (codes "try_send", Some message)
+step_parts (Send message) = (codes "send", Some message)
+step_parts (PollSend ticket) = (codes "poll_send", Some ticket)
+step_parts (WithdrawSend ticket) = (codes "withdraw_send", Some ticket)
+step_parts TryRecv = (codes "try_recv", None)
+step_parts (Recv Block) = (codes "recv block", None)
+step_parts (Recv Plain) = (codes "recv plain", None)
+step_parts (Recv Stream) = (codes "recv stream", None)
+step_parts (Recv Arm) = (codes "recv arm", None)
+step_parts (Poll ticket) = (codes "poll", Some ticket)
+step_parts (Withdraw ticket) = (codes "withdraw", Some ticket)
+step_parts Drain = (codes "drain", None)
+step_parts CloneSender = (codes "clone_sender", None)
+step_parts CloneReceiver = (codes "clone_receiver", None)
+step_parts DropSender = (codes "drop_sender", None)
+step_parts DropReceiver = (codes "drop_receiver", None)
+step_parts (SetCapacity capacity) = (codes "set_capacity", Some capacity)
+step_parts Len = (codes "len", None)
+step_parts IsEmpty = (codes "is_empty", None)
+step_parts IsFull = (codes "is_full", None)
+step_parts Capacity = (codes "capacity", None)
+step_parts SenderCount = (codes "sender_count", None)
+step_parts ReceiverCount = (codes "receiver_count", None)
+step_parts IsDisconnected = (codes "is_disconnected", None)
+
+-- the line is the word alone, or a space and the decimal digits of the number are behind it
+abbrev pub IsLineOf : List ℕ → List ℕ × Option ℕ → Type 0
+IsLineOf line (word, None) = line ≡ word
+IsLineOf line (word, Some number) = IsWordWithNumber line (word ++ 32 ∷ []) number
 
 -- the line is this step
 abbrev pub IsStepLine : List ℕ → Step ℕ → Type 0
-IsStepLine line (TrySend message) = IsWordWithNumber line (codes "try_send ") message
-IsStepLine line (Send message) = IsWordWithNumber line (codes "send ") message
-IsStepLine line (PollSend ticket) = IsWordWithNumber line (codes "poll_send ") ticket
-IsStepLine line (WithdrawSend ticket) = IsWordWithNumber line (codes "withdraw_send ") ticket
-IsStepLine line TryRecv = line ≡ codes "try_recv"
-IsStepLine line (Recv kind) = line ≡ codes "recv " ++ kind_name kind
-IsStepLine line (Poll ticket) = IsWordWithNumber line (codes "poll ") ticket
-IsStepLine line (Withdraw ticket) = IsWordWithNumber line (codes "withdraw ") ticket
-IsStepLine line Drain = line ≡ codes "drain"
-IsStepLine line CloneSender = line ≡ codes "clone_sender"
-IsStepLine line CloneReceiver = line ≡ codes "clone_receiver"
-IsStepLine line DropSender = line ≡ codes "drop_sender"
-IsStepLine line DropReceiver = line ≡ codes "drop_receiver"
-IsStepLine line (SetCapacity capacity) = IsWordWithNumber line (codes "set_capacity ") capacity
-IsStepLine line Len = line ≡ codes "len"
-IsStepLine line IsEmpty = line ≡ codes "is_empty"
-IsStepLine line IsFull = line ≡ codes "is_full"
-IsStepLine line Capacity = line ≡ codes "capacity"
-IsStepLine line SenderCount = line ≡ codes "sender_count"
-IsStepLine line ReceiverCount = line ≡ codes "receiver_count"
-IsStepLine line IsDisconnected = line ≡ codes "is_disconnected"
+IsStepLine line step = IsLineOf line (step_parts step)
 
 -- the line opens no channel
 abbrev pub IsNoOpening : List ℕ → Type 0

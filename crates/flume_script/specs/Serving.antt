@@ -5,13 +5,9 @@ use Rattle.std.specs.Prelude.{◌≡◌, ℕ, ◌⊎◌, List, [], ◌∷◌, �
 abbrev pub Finishes : List ℕ → ℕ → Option (List ℕ) → ℕ → Type 0
 Finishes all good written status = ((written ≡ Some all) × (status ≡ good)) ⊎ (status ≡ 4)
 
--- what is written when the program is out of memory
-abbrev pub memory_text : List ℕ
-memory_text = codes "out of memory" ++ 10 ∷ []
-
 -- what is written in all after `before`, and the status: a text of the program, or out of memory
 abbrev pub Serves : (List ℕ → ℕ → Type 0) → List ℕ → Option (List ℕ) → ℕ → Type 0
 Serves prints before written status =
     ((text : List ℕ) × (good : ℕ) × prints text good
     × Finishes (before ++ text) good written status)
-    ⊎ Finishes (before ++ memory_text) 3 written status
+    ⊎ Finishes (before ++ (codes "out of memory" ++ 10 ∷ [])) 3 written status

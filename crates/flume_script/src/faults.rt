@@ -2,9 +2,8 @@
 ghost use Rattle.std.specs.Prelude.{◌≡◌, ◌==◌, false};
 ghost use Rattle.std.specs.List.{All};
 
-use crate::reading::{
-    Reading, next_line, number, part_at, read_script, step_with_number, step_without_number,
-};
+use crate::reading::{Reading, next_line, number, part_at, read_script};
+use crate::words::{step_with_number, step_without_number};
 use flume_core::error::NoMemory;
 use flume_model::step::Step;
 use std::alloc::Allocator;
@@ -14,17 +13,14 @@ use std::alloc::Allocator;
 pub enum LineFault {
     ByteOrderMark,
     Empty,
-    /// It begins with one.
-    Space,
+    LeadingSpace,
     NoOpening,
     NoStep,
     MoreAfterWord,
-    /// A `recv` without a kind of receiver.
-    NoKind,
+    RecvWithoutKind,
     NoNumber,
     NotNumber,
-    /// More than 64 bits.
-    GreatNumber,
+    NumberPast64Bits,
     MoreAfterNumber,
 }
 
@@ -55,7 +51,7 @@ pub fn number_fault(text: &[u8]) -> LineFault {
     } else if number(digits).is_some() {
         LineFault::MoreAfterNumber
     } else if !digits.is_empty() && digits.iter().all(|x| x.is_ascii_digit()) {
-        LineFault::GreatNumber
+        LineFault::NumberPast64Bits
     } else {
         LineFault::NotNumber
     }
@@ -93,9 +89,9 @@ pub fn step_fault(line: &[u8]) -> LineFault {
     if line.is_empty() {
         LineFault::Empty
     } else if word.is_empty() {
-        LineFault::Space
+        LineFault::LeadingSpace
     } else if word == b"recv".as_slice() {
-        LineFault::NoKind
+        LineFault::RecvWithoutKind
     } else if step_without_number(word).is_some() {
         LineFault::MoreAfterWord
     } else if step_with_number(word, 0).is_some() {
@@ -141,11 +137,11 @@ fn words_of(fault: LineFault) -> &'static str {
             "it begins with a byte order mark: save it as plain text without one"
         }
         LineFault::Empty => "the line is empty",
-        LineFault::Space => "the line begins with a space",
+        LineFault::LeadingSpace => "the line begins with a space",
         LineFault::NoOpening => "the first line is 'unbounded' or 'bounded N'",
-        LineFault::NoKind => "'recv' takes one of block, plain, stream, arm",
+        LineFault::RecvWithoutKind => "'recv' takes one of block, plain, stream, arm",
         LineFault::NoNumber => "a number is missing",
-        LineFault::GreatNumber => "the number is greater than 18446744073709551615",
+        LineFault::NumberPast64Bits => "the number is greater than 18446744073709551615",
         LineFault::MoreAfterNumber => "there is more after the number",
         _ => "",
     }

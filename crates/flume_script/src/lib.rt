@@ -9,6 +9,7 @@ ghost use Rattle.std.specs.Str.Lines.{lines};
 pub mod faults;
 pub mod reading;
 pub mod serving;
+pub mod words;
 pub mod writing;
 
 use flume_core::chan::Chan;

@@ -5,25 +5,24 @@ ghost use Rattle.flume_script.specs.Script.{IsNoLine, IsStepLine, LinesUpTo};
 ghost use Rattle.std.specs.List.{All, AllZip};
 ghost use Rattle.std.specs.Prelude.{IfErr, IfNone, IfOk, IfSome, IsTrue, MatchOption, SomeIff};
 ghost use Rattle.std.specs.Prelude.{◌≡◌, ◌==◌, ℕ, ◌^◌, ◌<◌, ◌↔◌, List, [], ◌∷◌, ◌++◌};
-ghost use Rattle.std.specs.Prelude.{false, length, codes};
+ghost use Rattle.std.specs.Prelude.{false, length};
 ghost use Rattle.std.specs.Str.Lines.{lines, strip_carriage_return};
 ghost use Rattle.std.specs.Str.Parse.{IsNumeral, digits_value};
 
+use crate::words::{step_with_number, step_without_number};
 use flume_core::error::NoMemory;
-use flume_model::step::{Kind, Step};
+use flume_model::step::Step;
 use std::alloc::{AllocError, Allocator};
 use std::str;
 
-/// A script, or its first wrong line.
+/// A script, of capacity `None` if unbounded, or its first wrong line, counted from 1.
 #[derive(Drop)]
 pub enum Reading<L, A: Allocator> {
     Right {
-        /// `None` if unbounded.
         capacity: Option<usize>,
         steps: Vec<L, A>,
     },
     Wrong {
-        /// Counted from 1.
         line: usize,
     },
 }
@@ -118,59 +117,6 @@ fn is_text(line: &[u8], word: &[u8]) -> bool
     line == word
 }
 
-pub(crate) fn step_without_number(word: &[u8]) -> Option<Step<u64>>
-    requires no_space { All (λ x. (x == 32) ≡ false) word.now }
-    ensures value { MatchOption result (IsNoLine IsStepLine word.now) (IsStepLine word.now) }
-{
-    match word {
-        _ if is_text(word, b"try_recv") => Some(Step::TryRecv),
-        _ if is_text(word, b"drain") => Some(Step::Drain),
-        _ if is_text(word, b"clone_sender") => Some(Step::CloneSender),
-        _ if is_text(word, b"clone_receiver") => Some(Step::CloneReceiver),
-        _ if is_text(word, b"drop_sender") => Some(Step::DropSender),
-        _ if is_text(word, b"drop_receiver") => Some(Step::DropReceiver),
-        _ if is_text(word, b"len") => Some(Step::Len),
-        _ if is_text(word, b"is_empty") => Some(Step::IsEmpty),
-        _ if is_text(word, b"is_full") => Some(Step::IsFull),
-        _ if is_text(word, b"capacity") => Some(Step::Capacity),
-        _ if is_text(word, b"sender_count") => Some(Step::SenderCount),
-        _ if is_text(word, b"receiver_count") => Some(Step::ReceiverCount),
-        _ if is_text(word, b"is_disconnected") => Some(Step::IsDisconnected),
-        _ => None,
-    }
-}
-
-pub(crate) fn step_with_number(word: &[u8], number: u64) -> Option<Step<u64>>
-    requires no_space { All (λ x. (x == 32) ≡ false) word.now }
-    ensures value { (digits : List ℕ) → IsNumeral 10 digits → digits_value 10 digits ≡ number →
-        MatchOption result (IsNoLine IsStepLine (word.now ++ 32 ∷ digits))
-        (IsStepLine (word.now ++ 32 ∷ digits)) }
-{
-    match word {
-        _ if is_text(word, b"try_send") => Some(Step::TrySend(number)),
-        _ if is_text(word, b"send") => Some(Step::Send(number)),
-        _ if is_text(word, b"poll_send") => Some(Step::PollSend(number)),
-        _ if is_text(word, b"withdraw_send") => Some(Step::WithdrawSend(number)),
-        _ if is_text(word, b"poll") => Some(Step::Poll(number)),
-        _ if is_text(word, b"withdraw") => Some(Step::Withdraw(number)),
-        _ if is_text(word, b"set_capacity") => Some(Step::SetCapacity(number as usize)),
-        _ => None,
-    }
-}
-
-fn recv_step(kind: &[u8]) -> Option<Step<u64>>
-    ensures value { MatchOption result (IsNoLine IsStepLine (codes "recv " ++ kind.now))
-        (IsStepLine (codes "recv " ++ kind.now)) }
-{
-    match kind {
-        _ if is_text(kind, b"block") => Some(Step::Recv(Kind::Block)),
-        _ if is_text(kind, b"plain") => Some(Step::Recv(Kind::Plain)),
-        _ if is_text(kind, b"stream") => Some(Step::Recv(Kind::Stream)),
-        _ if is_text(kind, b"arm") => Some(Step::Recv(Kind::Arm)),
-        _ => None,
-    }
-}
-
 /// The step that a line is, if any.
 /// ```
 /// step_of(b"poll 2");                // Some(Poll(2))
@@ -179,11 +125,11 @@ fn recv_step(kind: &[u8]) -> Option<Step<u64>>
 pub fn step_of(line: &[u8]) -> Option<Step<u64>>
     ensures value { MatchOption result (IsNoLine IsStepLine line.now) (IsStepLine line.now) }
 {
-    match part_at(line, b' ') {
-        None => step_without_number(line),
-        Some((word, kind)) if is_text(word, b"recv") => recv_step(kind),
-        Some((word, digits)) => step_with_number(word, number(digits)?),
+    if let Some(step) = step_without_number(line) {
+        return Some(step);
     }
+    let (word, digits) = part_at(line, b' ')?;
+    step_with_number(word, number(digits)?)
 }
 
 /// The capacity at which a line opens a channel, if it does.
@@ -202,7 +148,6 @@ pub fn opening_of(line: &[u8]) -> Option<Option<usize>>
     Some(Some(capacity as usize))
 }
 
-// `Err`: how many there are before the first wrong line.
 fn read_lines<'s, L: Line<'s> + Drop, A: Allocator + Copy>(
     alloc: A,
     mut rest: &'s [u8],

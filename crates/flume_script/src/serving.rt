@@ -1,63 +1,87 @@
 //! A program that reads its input to the end, and prints one text.
-ghost use Rattle.std.specs.Prelude.{◌≡◌, ℕ, List, ◌++◌, Some, IfOk, OnErr};
-ghost use Rattle.flume_script.specs.Serving.{Finishes, memory_text};
+ghost use Rattle.flume_script.specs.Serving.{Finishes, Serves};
+ghost use Rattle.std.specs.Prelude.{◌≡◌, ℕ, List, ◌++◌, Some, IfOk};
 
 use crate::ScriptOutput;
 use flume_core::error::NoMemory;
-use std::alloc::Allocator;
+use std::alloc::{Allocator, Global};
 use std::io::{ErrorKind, Read, Write};
+use std::process::ExitCode;
+use std::{env, io};
+
+const FAULT: u8 = 4;
 
 const OUT_OF_MEMORY: &[u8] = b"out of memory\n";
 
-/// The exit status if the input can't be read, or the output can't be written.
-pub const FAULT: u8 = 4;
+/// What a program makes of its input.
+pub trait Program<A: Allocator> {
+    ghost prints: { Self → List ℕ → List ℕ → ℕ → Type 0 };
 
-/// Why the input isn't read.
-#[derive(Clone, Copy, Debug, Drop)]
-pub enum Unread {
-    NoMemory,
-    /// Any other error.
-    Fault,
+    /// What it prints, and the exit status. `NoMemory`: an allocation failed.
+    fn run(&self, alloc: A, input: &[u8]) -> Result<ScriptOutput<A>, NoMemory>
+        ensures prints { IfOk result (λ script.
+            prints self.now input.now script.text.items script.status) };
+
+    /// Why a line is wrong: what goes to standard error if the status is 2.
+    fn explain(
+        &self,
+        alloc: A,
+        input: &[u8],
+        printed: &ScriptOutput<A>,
+    ) -> Result<String<A>, NoMemory>;
 }
 
-/// Reads the input to its end.
-/// ```
-/// let bytes = read_all(alloc, &mut &b"unbounded\n"[..]);
-/// assert!(rt; bytes.is_ok());
-/// ```
-pub fn read_all<A: Allocator + Copy, R: Read>(alloc: A, input: &mut R) -> Result<Vec<u8, A>, Unread>
-    ensures all { (bytes : List ℕ) → R.remaining input.old ≡ Some bytes
-        → IfOk result (λ read. read.items ≡ bytes) }
+/// `serve` on the standard streams; the status is 4 if the arguments couldn't be read.
+pub fn serve_on_host<P: Program<Global> + Drop>(
+    rt: &HostRuntime,
+    program: io::Result<P>,
+) -> ExitCode {
+    let Ok(program) = program else {
+        return FAULT.into();
+    };
+    let (mut output, mut messages) = (io::writer(rt), rt.stderr());
+    let (alloc, mut input) = (rt.alloc(), rt.reader());
+    serve(alloc, &program, &mut input, &mut output, &mut messages).into()
+}
+
+/// Whether one of the program's arguments is this word.
+pub fn asks_for(rt: &HostRuntime, word: &str) -> io::Result<bool> {
+    Ok(
+        env::args(rt)?
+            .skip(1)
+            .any(|argument| argument.as_str() == word),
+    )
+}
+
+/// Reads the input to its end, prints what the program makes of it, and returns the exit status:
+/// 3 if memory is out, 4 if the input can't be read or the text not be written, or the program's.
+pub fn serve<A: Allocator + Copy, P: Program<A>, R: Read, W: Write, M: Write>(
+    alloc: A,
+    program: &P,
+    input: &mut R,
+    output: &mut W,
+    messages: &mut M,
+) -> u8
+    ensures served { (bytes before : List ℕ) → R.remaining input.old ≡ Some bytes
+        → W.contents output.old ≡ Some before
+        → Serves (P.prints program.now bytes) before (W.contents output.new) result }
 {
     let mut bytes = Vec::new(alloc);
-    match input.read_to_end(&mut bytes) {
-        Ok(_) => Ok(bytes),
-        Err(fault) => match fault.kind() {
-            ErrorKind::OutOfMemory => Err(Unread::NoMemory),
-            _ => Err(Unread::Fault),
-        },
+    if let Err(fault) = input.read_to_end(&mut bytes) {
+        return match fault.kind() {
+            ErrorKind::OutOfMemory => finish(output, OUT_OF_MEMORY, 3),
+            _ => FAULT,
+        };
     }
-}
-
-/// Writes a program's text, and returns its exit status: the answer's; 3 for `NoMemory`, whose text
-/// is `out of memory`; `FAULT` if the text can't be written.
-/// ```
-/// let mut output = Vec::new(alloc);
-/// let status = write_answer(&mut output, run_script(alloc, b"unbounded\nlen\n"));
-/// assert_eq!(rt; (status, &output[..]), (0, &b"0\n"[..]));
-/// ```
-pub fn write_answer<A: Allocator, W: Write>(
-    output: &mut W,
-    answer: Result<ScriptOutput<A>, NoMemory>,
-) -> u8
-    ensures answered { (before : List ℕ) → W.contents output.old ≡ Some before
-        → IfOk answer (λ script. Finishes (before ++ script.text.items) script.status
-        (W.contents output.new) result) }
-    ensures no_memory { (before : List ℕ) → W.contents output.old ≡ Some before
-        → OnErr answer (Finishes (before ++ memory_text) 3 (W.contents output.new) result) }
-{
-    match answer {
-        Ok(script) => finish(output, &script.text, script.status),
+    match program.run(alloc, &bytes) {
+        Ok(script) => {
+            if script.status == 2 {
+                if let Ok(why) = program.explain(alloc, &bytes, &script) {
+                    let _ = messages.write_all(why.as_bytes());
+                }
+            }
+            finish(output, &script.text, script.status)
+        }
         Err(NoMemory) => finish(output, OUT_OF_MEMORY, 3),
     }
 }

@@ -1,6 +1,6 @@
 //! The texts of replies.
-ghost use Rattle.flume_script.specs.ReplyTexts.{gone_text, spaced, reply_text, reply_texts};
-ghost use Rattle.flume_model.specs.declared.step.Reply.TheVariants.{Capacity, Returned, Sent};
+ghost use Rattle.flume_script.specs.ReplyTexts.{spaced, reply_text, reply_texts};
+ghost use Rattle.flume_model.specs.declared.step.Reply.TheVariants.{Capacity, Gone, Returned, Sent};
 ghost use Rattle.flume_model.specs.declared.step.Reply.TheVariants.{Truth};
 ghost use Rattle.std.specs.Fmt.{decimal};
 ghost use Rattle.std.specs.Prelude.{IfNone, IfOk, IfSome, OnOk, ◌≡◌, [], ◌∷◌, ◌++◌};
@@ -43,7 +43,7 @@ fn write_gone<A: Allocator>(
     filled: Option<u64>,
 ) -> Result<(), NoMemory>
     ensures value { OnOk result (string_bytes text.new
-        ≡ string_bytes text.old ++ (gone_text closed filled ++ 10 ∷ [])) }
+        ≡ string_bytes text.old ++ (reply_text {A = A} (Gone closed filled) ++ 10 ∷ [])) }
 {
     match (closed, filled) {
         (false, None) => text.push_str("gone\n")?,

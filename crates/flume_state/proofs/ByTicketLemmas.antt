@@ -1,9 +1,13 @@
 -- The map of the values that are under a ticket in a chain, and where the element with a ticket is.
-use Rattle.std.proofs.Common.{◌≡◌, ℕ, ◌≤◌, ◌==◌, true, false, cond, if◌then◌else◌, List, [], ◌∷◌, ◌++◌, Option, Some, None, refl, sym, ap, ◌∙◌, inl, inr, arith, subst, append-nil, option_map, nat_cmp}
+use Rattle.std.proofs.Common.{◌≡◌, ℕ, ◌≤◌, ◌==◌, true, false, cond, if◌then◌else◌, List, [], ◌∷◌, ◌++◌}
+use Rattle.std.proofs.Common.{Option, Some, None, refl, sym, ap, ◌∙◌, inl, inr, arith, subst, append-nil}
+use Rattle.std.proofs.Common.{option_map, nat_cmp}
 use Rattle.std.proofs.lemmas.Bool.{cases_Bool, eqb-true, eq-eqb, ne_eqb}
 use Rattle.std.specs.Cmp.{nat_cmp_total, unsigned_tied}
 use Rattle.std.specs.FinMap.{get, insert, remove, get-empty, get-insert}
-use Rattle.flume_state.proofs.Chains.{ChainItem, times, places, found, without_place, with_new_value, once_same, once_none, once_back, with_other, item, found_some, without_at, with_value_at}
+use Rattle.flume_state.proofs.Chains.{ChainItem, times, places, found, without_place, with_new_value}
+use Rattle.flume_state.proofs.Chains.{once_same, once_none, once_back, with_other, item, found_some}
+use Rattle.flume_state.proofs.Chains.{without_at, with_value_at}
 use Rattle.flume_state.specs.layout.WithTicket.{WithTicket, place_of, tickets}
 use Rattle.flume_state.specs.Sends.{changed}
 use Rattle.flume_state.specs.layout.SendLayout.{by_ticket}
@@ -51,7 +55,8 @@ module _ {X : Type 0} where
       ap (λ o. if y.element.label == q then Some y.element.value else o) (value_around q xs ys x e)
 
   -- the value of an element behind others of which none has its ticket
-  pub value_at : (t p : ℕ) (v : X) (xs ys : List (ChainItem (WithTicket X))) → value_of t xs ≡ None → value_of t (xs ++ item p (under t v) ∷ ys) ≡ Some v
+  pub value_at : (t p : ℕ) (v : X) (xs ys : List (ChainItem (WithTicket X))) → value_of t xs ≡ None
+      → value_of t (xs ++ item p (under t v) ∷ ys) ≡ Some v
   value_at t p v xs ys none =
       value_past t xs (item p (under t v) ∷ ys) none
       ∙ ap (λ b. if b then Some v else value_of t ys) (eq-eqb t t refl)
@@ -77,7 +82,8 @@ module _ {X : Type 0} where
       ∙ ap (λ m. changed m t f) (sym (by_ticket_insert t p v xs ys none))
 
   -- an element with a changed value at the end is a changed one in the map
-  pub by_ticket_moved : (t p : ℕ) (v : X) (f : X → X) (xs ys : List (ChainItem (WithTicket X))) → value_of t xs ≡ None → value_of t ys ≡ None
+  pub by_ticket_moved : (t p : ℕ) (v : X) (f : X → X) (xs ys : List (ChainItem (WithTicket X))) → value_of t xs ≡ None
+      → value_of t ys ≡ None
       → by_ticket ((xs ++ ys) ++ item p (under t (f v)) ∷ []) ≡ changed (by_ticket (xs ++ item p (under t v) ∷ ys)) t f
   by_ticket_moved t p v f xs ys none later =
       by_ticket_insert t p (f v) (xs ++ ys) [] (value_past t xs ys none ∙ later)
@@ -96,7 +102,8 @@ module _ {X : Type 0} where
   pub value_none : (t : ℕ) (xs : List (ChainItem (WithTicket X))) → times t (tickets xs) ≡ 0 → value_of t xs ≡ None
   value_none t [] none = refl
   value_none t (x ∷ xs) none =
-      ap (λ b. if b then Some x.element.value else value_of t xs) (once_none x.element.label t (omega arith)) ∙ value_none t xs (omega arith)
+      ap (λ b. if b then Some x.element.value else value_of t xs) (once_none x.element.label t (omega arith))
+      ∙ value_none t xs (omega arith)
 
   -- the one element with a ticket, its place, which no other has, and its value, and those ahead of
   -- it and behind it
@@ -110,7 +117,8 @@ module _ {X : Type 0} where
     pub none_behind : value_of t after ≡ None
 
   -- it is so among others, if no two have one place or one ticket
-  abbrev pub stands_amid : (t p : ℕ) (v : X) (items before after : List (ChainItem (WithTicket X))) → Apart items → ((u : ℕ) → times u (tickets items) ≤ 1)
+  abbrev pub stands_amid : (t p : ℕ) (v : X) (items before after : List (ChainItem (WithTicket X))) → Apart items
+      → ((u : ℕ) → times u (tickets items) ≤ 1)
       → items ≡ before ++ item p (under t v) ∷ after → Occupied t p v items
   stands_amid t p v items before after apart single is =
       let at = alone before after p (under t v) (subst Apart is apart) in
@@ -158,7 +166,8 @@ module _ {X : Type 0} where
   ]
 
   -- a value is found there
-  pub found_somewhere : (t p : ℕ) (items : List (ChainItem (WithTicket X))) → ((k : ℕ) → times k (places items) ≤ 1) → place_of t items ≡ Some p
+  pub found_somewhere : (t p : ℕ) (items : List (ChainItem (WithTicket X))) → ((k : ℕ) → times k (places items) ≤ 1)
+      → place_of t items ≡ Some p
       → None ≡ option_map (λ e. e.value) (found items p) → ⊥
   found_somewhere t p items apart is none =
       let r = held t p items apart is in
@@ -171,7 +180,8 @@ module _ {X : Type 0} where
       get_by_ticket items t ∙ ap (value_of t) s.is ∙ value_at t p v s.before s.after s.none_ahead
 
   -- without it the others are left
-  pub stands_without : (t p : ℕ) (v : X) (items : List (ChainItem (WithTicket X))) (s : Occupied t p v items) → without_place items p ≡ s.before ++ s.after
+  pub stands_without : (t p : ℕ) (v : X) (items : List (ChainItem (WithTicket X))) (s : Occupied t p v items)
+      → without_place items p ≡ s.before ++ s.after
   stands_without t p v items s =
       ap (λ l. without_place l p) s.is ∙ without_at s.before s.after p (under t v) s.ahead s.behind
 
@@ -182,7 +192,8 @@ module _ {X : Type 0} where
       ap (λ l. with_value_at p l w) s.is ∙ edited_at (with_new_value w) p s.before s.after (under t v) s.ahead s.behind
 
   -- then it is as before, with that value
-  abbrev pub stands_again : (t p : ℕ) (v w : X) (items : List (ChainItem (WithTicket X))) → Occupied t p v items → Occupied t p w (with_value_at p items w)
+  abbrev pub stands_again : (t p : ℕ) (v w : X) (items : List (ChainItem (WithTicket X))) → Occupied t p v items
+      → Occupied t p w (with_value_at p items w)
   stands_again t p v w items s = record {
     before = s.before;
     after = s.after;

@@ -1,9 +1,14 @@
 -- A parked receiver that asks again: it waits on in its place, or behind all others if it was
 -- woken.
-use Rattle.std.proofs.Common.{◌≡◌, ℕ, ◌+◌, ◌==◌, Bool, [], ◌∷◌, ◌++◌, Option, Some, None, option_map, OnSome, IsSome, ◌↔◌, length, length-append, refl, sym, ap, ap₂, ◌∙◌, inl, inr, arith, true, false, if◌then◌else◌}
+use Rattle.std.proofs.Common.{◌≡◌, ℕ, ◌+◌, ◌==◌, Bool, [], ◌∷◌, ◌++◌, Option, Some, None, option_map, OnSome}
+use Rattle.std.proofs.Common.{IsSome, ◌↔◌, length, length-append, refl, sym, ap, ap₂, ◌∙◌, inl, inr, arith}
+use Rattle.std.proofs.Common.{true, false, if◌then◌else◌}
 use Rattle.std.proofs.lemmas.Bool.{cases_Bool}
 use Rattle.std.specs.Option.{option_or}
-use Rattle.flume_state.proofs.Chains.{times, places, found, without_place, first_place, place_after, once_back, item, found_none, without_at, with_value_at, with_same, with_new_value, length-changed_at, places-changed_at, found-changed_at, changed_at-append, edited_missing}
+use Rattle.flume_state.proofs.Chains.{times, places, found, without_place, first_place, place_after}
+use Rattle.flume_state.proofs.Chains.{once_back, item, found_none, without_at, with_value_at, with_same}
+use Rattle.flume_state.proofs.Chains.{with_new_value, length-changed_at, places-changed_at, found-changed_at}
+use Rattle.flume_state.proofs.Chains.{changed_at-append, edited_missing}
 use Rattle.flume_model.specs.Entries.{is_waiting, is_woken, waiting_count, again, again_as, entry_of, held_by, held_in, without_ticket}
 use Rattle.flume_model.specs.declared.entry.Entry.{Entry}
 use Rattle.flume_model.specs.declared.entry.Mark.{Mark}
@@ -39,7 +44,8 @@ module _ {T S : Type 0} where
   ]
 
   -- the part of those that wait, if one of them has a value with which it waits
-  each-with_new_value : (xs : Items T S) (k : ℕ) (v : ParkedReceiver T S) → Each true false xs → is_waiting v.mark ≡ true → v.notice.due ≡ false
+  each-with_new_value : (xs : Items T S) (k : ℕ) (v : ParkedReceiver T S) → Each true false xs → is_waiting v.mark ≡ true
+      → v.notice.due ≡ false
       → Each true false (with_value_at k xs v)
   each-with_new_value [] k v all waits not_due = all
   each-with_new_value (x ∷ xs) k v all waits not_due = elim (cases_Bool (k == x.place)) [
@@ -48,7 +54,8 @@ module _ {T S : Type 0} where
   ]
 
   -- the first place is the same after an element has another value
-  first-with_new_value : (xs ys : Items T S) (k : ℕ) (v : ParkedReceiver T S) → first_place (xs ++ ys) ≡ first_place (xs ++ with_value_at k ys v)
+  first-with_new_value : (xs ys : Items T S) (k : ℕ) (v : ParkedReceiver T S)
+      → first_place (xs ++ ys) ≡ first_place (xs ++ with_value_at k ys v)
   first-with_new_value (x ∷ xs) ys k v = refl
   first-with_new_value [] [] k v = refl
   first-with_new_value [] (y ∷ ys) k v = elim (cases_Bool (k == y.place)) [
@@ -76,7 +83,8 @@ module _ {T S : Type 0} where
         last = with_value_at k s.last v;
         is = ap (λ l. with_value_at k l v) s.is ∙ changed_at-append (with_new_value v) s.inactive (s.dues ++ s.last) k
             ∙ ap₂ (λ a b. a ++ b) (edited_missing (with_new_value v) s.inactive k (found_none s.inactive k p.0))
-            (changed_at-append (with_new_value v) s.dues s.last k ∙ ap (λ l. l ++ with_value_at k s.last v) (edited_missing (with_new_value v) s.dues k (found_none s.dues k r.0)));
+            (changed_at-append (with_new_value v) s.dues s.last k
+            ∙ ap (λ l. l ++ with_value_at k s.last v) (edited_missing (with_new_value v) s.dues k (found_none s.dues k r.0)));
         are_inactive = s.are_inactive;
         are_due = s.are_due;
         wait = each-with_new_value s.last k v s.wait does not_due;
@@ -166,7 +174,8 @@ module _ {T S : Type 0} where
   -- one with another value in its place, and what moving it back leaves: it is behind all others
   pub moved : (items new : Items T S) (t k : ℕ) (v : ParkedReceiver T S) (done : Bool) (q : Seated items t k)
       → (done ≡ true ↔ IsSome (found (with_value_at k items v) k))
-      → (done ≡ true → (e : WithTicket (ParkedReceiver T S)) → found (with_value_at k items v) k ≡ Some e → new ≡ behind_all (with_value_at k items v) k e)
+      → (done ≡ true → (e : WithTicket (ParkedReceiver T S)) → found (with_value_at k items v) k ≡ Some e
+      → new ≡ behind_all (with_value_at k items v) k e)
       → new ≡ behind_all items k (with_new_value v q.element)
   moved items new t k v done q stood moves =
       let here : found (with_value_at k items v) k ≡ Some (with_new_value v q.element) =
@@ -193,7 +202,8 @@ module _ {T S : Type 0} where
   again_sorted items due waits next n t k signal Woken s q is woken after =
       let e = with_new_value (after_asking Woken signal q.element.value) q.element in
       let left = sorted_without items due waits next n n k q.element s q.here after (rw is (omega arith)) in
-      sorted_push (without_place items k) (boundary_without due k next) (boundary_without waits k next) n k e left (found_none (without_place items k) k (gone k items))
+      sorted_push (without_place items k) (boundary_without due k next) (boundary_without waits k next) n k e left
+      (found_none (without_place items k) k (gone k items))
       (refl, refl) (omega (arith, s.fits, length-behind items t k e q))
 
   -- and so it does among the entries

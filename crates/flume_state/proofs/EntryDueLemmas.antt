@@ -1,6 +1,8 @@
 -- The first that waits and the first that is due, and what becomes of them.
-use Rattle.std.proofs.Common.{◌≡◌, ℕ, ◌-◌, ◌≤◌, Bool, [], ◌∷◌, ◌++◌, Option, Some, None, refl, sym, ap, ◌∙◌, arith, true, false, subst, append_assoc}
-use Rattle.flume_state.proofs.Chains.{times, places, found, first_place, place_after, item, after_at, with_value_at, with_new_value, length-changed_at, places-changed_at}
+use Rattle.std.proofs.Common.{◌≡◌, ℕ, ◌-◌, ◌≤◌, Bool, [], ◌∷◌, ◌++◌, Option, Some, None, refl, sym, ap, ◌∙◌}
+use Rattle.std.proofs.Common.{arith, true, false, subst, append_assoc}
+use Rattle.flume_state.proofs.Chains.{times, places, found, first_place, place_after, item, after_at}
+use Rattle.flume_state.proofs.Chains.{with_value_at, with_new_value, length-changed_at, places-changed_at}
 use Rattle.flume_model.specs.Entries.{is_waiting, waiting_count}
 use Rattle.flume_model.specs.declared.entry.Mark.{Mark}
 use Rattle.flume_state.specs.Notices.{due_now}
@@ -48,8 +50,10 @@ module _ {T S : Type 0} where
       ∙ waiting_skip true s.dues (entries_in s.last) s.are_due
 
   -- and is marked there
-  mark_of_last : (tell : Notice S → Notice S) (m : Mark T) (items : Items T S) (due waits : Option ℕ) (n : ℕ) (s : EntryLayout items due waits n)
-      → with_first_marked tell m (entries_in items) ≡ entries_in s.inactive ++ (entries_in s.dues ++ with_first_marked tell m (entries_in s.last))
+  mark_of_last : (tell : Notice S → Notice S) (m : Mark T) (items : Items T S) (due waits : Option ℕ) (n : ℕ)
+      (s : EntryLayout items due waits n)
+      → with_first_marked tell m (entries_in items) ≡ entries_in s.inactive ++ (entries_in s.dues ++ with_first_marked tell m
+      (entries_in s.last))
   mark_of_last tell m items due waits n s = ap (with_first_marked tell m) (three items due waits n s)
       ∙ marked_skip false tell m s.inactive (entries_in s.dues ++ entries_in s.last) s.are_inactive
       ∙ ap (λ l. entries_in s.inactive ++ l) (marked_skip true tell m s.dues (entries_in s.last) s.are_due)
@@ -63,11 +67,13 @@ module _ {T S : Type 0} where
   nobody_waits items due waits n s none =
       first_of_last items due waits n s ∙ ap (λ l. first_waiting (entries_in l)) (none_last items due waits n s none)
 
-  pub nobody_marked : (tell : Notice S → Notice S) (m : Mark T) (items : Items T S) (due waits : Option ℕ) (n : ℕ) → EntryLayout items due waits n
+  pub nobody_marked : (tell : Notice S → Notice S) (m : Mark T) (items : Items T S) (due waits : Option ℕ) (n : ℕ)
+      → EntryLayout items due waits n
       → waits ≡ None → entries_in items ≡ with_first_marked tell m (entries_in items)
   nobody_marked tell m items due waits n s none =
       let same : with_first_marked tell m (entries_in s.last) ≡ entries_in s.last = rw (none_last items due waits n s none) refl in
-      three items due waits n s ∙ sym (mark_of_last tell m items due waits n s ∙ ap (λ l. entries_in s.inactive ++ (entries_in s.dues ++ l)) same)
+      three items due waits n s ∙ sym (mark_of_last tell m items due waits n s
+      ∙ ap (λ l. entries_in s.inactive ++ (entries_in s.dues ++ l)) same)
 
   -- the first that waits, at its place alone
   pub record FirstWaiting (items : Items T S) (due waits : Option ℕ) (n : ℕ) (k : ℕ) (s : EntryLayout items due waits n) : Type 0 where
@@ -102,7 +108,8 @@ module _ {T S : Type 0} where
       }
 
   -- its entry is the first that waits
-  pub waits_first : (items : Items T S) (due waits : Option ℕ) (n : ℕ) (k : ℕ) (s : EntryLayout items due waits n) (w : FirstWaiting items due waits n k s)
+  pub waits_first : (items : Items T S) (due waits : Option ℕ) (n : ℕ) (k : ℕ) (s : EntryLayout items due waits n)
+      (w : FirstWaiting items due waits n k s)
       → first_waiting (entries_in items) ≡ Some (entry_in (item k w.element))
   waits_first items due waits n k s w =
       first_of_last items due waits n s ∙ ap (λ l. first_waiting (entries_in l)) w.last ∙ rw w.class.0 refl
@@ -156,7 +163,8 @@ module _ {T S : Type 0} where
       ∙ sym (mark_of_last due_now m items due waits n s ∙ ap (λ l. entries_in s.inactive ++ (entries_in s.dues ++ l)) here)
 
   -- some wait if one does
-  pub waits_some : (items : Items T S) (due waits : Option ℕ) (n : ℕ) (k : ℕ) (s : EntryLayout items due waits n) → FirstWaiting items due waits n k s → 1 ≤ n
+  pub waits_some : (items : Items T S) (due waits : Option ℕ) (n : ℕ) (k : ℕ) (s : EntryLayout items due waits n)
+      → FirstWaiting items due waits n k s → 1 ≤ n
   waits_some items due waits n k s w =
       let one : weight (entry_in (item k w.element)) ≡ 1 = rw w.class.0 refl in
       let sum = ap (λ l. waiting_count (entries_in l)) w.is ∙ waits-append (s.inactive ++ s.dues) (item k w.element ∷ w.after) in

@@ -1,9 +1,12 @@
 -- The first that is due, and what becomes of it once it is named.
-use Rattle.std.proofs.Common.{◌≡◌, ◌≢◌, ℕ, Bool, [], ◌∷◌, ◌++◌, Option, Some, None, refl, sym, ap, ◌∙◌, arith, true, false, not, nat_eq, inl, inr, eq-eqb, subst, append_assoc}
+use Rattle.std.proofs.Common.{◌≡◌, ◌≢◌, ℕ, Bool, [], ◌∷◌, ◌++◌, Option, Some, None, refl, sym, ap, ◌∙◌, arith}
+use Rattle.std.proofs.Common.{true, false, not, nat_eq, inl, inr, eq-eqb, subst, append_assoc}
 use Rattle.std.proofs.lemmas.Bool.{cases_Bool, eqb-true}
 use Rattle.std.specs.Option.{option_eq}
 use Rattle.std.proofs.lemmas.List.Elements.{All-append, All-cons, All-nil}
-use Rattle.flume_state.proofs.Chains.{times, places, found, first_place, place_after, once_same, item, after_at, with_value_at, with_new_value, length-changed_at, places-changed_at}
+use Rattle.flume_state.proofs.Chains.{times, places, found, first_place, place_after, once_same, item}
+use Rattle.flume_state.proofs.Chains.{after_at, with_value_at, with_new_value, length-changed_at}
+use Rattle.flume_state.proofs.Chains.{places-changed_at}
 use Rattle.flume_model.specs.Entries.{waiting_count}
 use Rattle.flume_model.specs.declared.entry.Entry.{Entry}
 use Rattle.flume_state.specs.Notices.{no_longer_due}
@@ -42,7 +45,8 @@ module _ {T S : Type 0} where
       All-cons (λ (e : Entry T (Notice S)). e.notice.due ≡ false) (entry_in x) (entries_in xs) all.1 (no_due w xs all.2)
 
   -- two boundaries at one place have nothing between them
-  nothing_between : (inactive dues last : Items T S) → Apart (inactive ++ (dues ++ last)) → first_place (dues ++ last) ≡ first_place last → dues ≡ []
+  nothing_between : (inactive dues last : Items T S) → Apart (inactive ++ (dues ++ last)) → first_place (dues ++ last) ≡ first_place last
+      → dues ≡ []
   nothing_between inactive [] last apart same = refl
   nothing_between inactive (x ∷ xs) last apart same =
       let f = front_at last x.place same in
@@ -54,7 +58,8 @@ module _ {T S : Type 0} where
       absurd (omega arith)
 
   -- if both boundaries are at one place no receiver is due
-  pub none_due : (items : Items T S) (due waits : Option ℕ) (n : ℕ) → EntryLayout items due waits n → due ≡ waits → NoDueReceiver (entries_in items)
+  pub none_due : (items : Items T S) (due waits : Option ℕ) (n : ℕ) → EntryLayout items due waits n → due ≡ waits
+      → NoDueReceiver (entries_in items)
   none_due items due waits n s same =
       let none = nothing_between s.inactive s.dues s.last (subst Apart s.is s.apart) (sym s.first_due ∙ same ∙ s.first_waits) in
       let two : entries_in items ≡ entries_in s.inactive ++ entries_in s.last =
@@ -76,7 +81,8 @@ module _ {T S : Type 0} where
     pub due_too : Each false true others
 
   -- if the boundaries are two the first one names it
-  front_due : (dues last : Items T S) (k : ℕ) → first_place (dues ++ last) ≢ first_place last → Some k ≡ first_place (dues ++ last) → Front dues k
+  front_due : (dues last : Items T S) (k : ℕ) → first_place (dues ++ last) ≢ first_place last → Some k ≡ first_place (dues ++ last)
+      → Front dues k
   front_due [] last k other h = absurd (other refl)
   front_due (x ∷ xs) last k other h = front_at (x ∷ xs) k h
 
@@ -104,7 +110,8 @@ module _ {T S : Type 0} where
   told_value p = record p { notice = no_longer_due p.notice }
 
   -- the first that was due is due no more, and the boundary is behind it
-  pub sorted_told : (items : Items T S) (due waits : Option ℕ) (n : ℕ) (k : ℕ) (s : EntryLayout items due waits n) (d : Dues items due waits n k s)
+  pub sorted_told : (items : Items T S) (due waits : Option ℕ) (n : ℕ) (k : ℕ) (s : EntryLayout items due waits n)
+      (d : Dues items due waits n k s)
       → EntryLayout (with_value_at k items (told_value d.element.value)) (place_after items k) waits n
   sorted_told items due waits n k s d =
       let v = told_value d.element.value in

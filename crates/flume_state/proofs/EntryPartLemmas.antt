@@ -1,10 +1,15 @@
 -- The elements of a chain under single changes: what is at their places, and in which order they
 -- are.
-use Rattle.std.proofs.Common.{◌≡◌, ℕ, ◌+◌, ◌≤◌, ◌==◌, Bool, true, false, List, [], ◌∷◌, ◌++◌, Option, Some, None, option_map, length, refl, sym, ap, ◌∙◌, inl, inr, arith, if◌then◌else◌, eq-eqb, subst}
+use Rattle.std.proofs.Common.{◌≡◌, ℕ, ◌+◌, ◌≤◌, ◌==◌, Bool, true, false, List, [], ◌∷◌, ◌++◌, Option, Some}
+use Rattle.std.proofs.Common.{None, option_map, length, refl, sym, ap, ◌∙◌, inl, inr, arith, if◌then◌else◌}
+use Rattle.std.proofs.Common.{eq-eqb, subst}
 use Rattle.std.proofs.lemmas.Bool.{cases_Bool, eqb-true}
 use Rattle.std.proofs.lemmas.List.{map-append}
 use Rattle.std.specs.Option.{option_or}
-use Rattle.flume_state.proofs.Chains.{once, times, ChainItem, places, found, without_place, first_place, place_after, times-append, once_same, once_none, once_back, with_same, item, found_none, found_put, found_some, without_none, after_at, edited_missing, changed_at, with_value_at}
+use Rattle.flume_state.proofs.Chains.{once, times, ChainItem, places, found, without_place, first_place}
+use Rattle.flume_state.proofs.Chains.{place_after, times-append, once_same, once_none, once_back, with_same}
+use Rattle.flume_state.proofs.Chains.{item, found_none, found_put, found_some, without_none, after_at}
+use Rattle.flume_state.proofs.Chains.{edited_missing, changed_at, with_value_at}
 use Rattle.flume_state.specs.layout.EntryLayout.{boundary_without}
 use Rattle.flume_state.specs.layout.WithTicket.{WithTicket}
 
@@ -115,7 +120,8 @@ module _ {E : Type 0} where
     | inl t ↦ (
         let name : y.place ≡ k = eqb-true y.place k t in
         let at = alone xs ys y.place y.element apart in
-        let after : place_after (xs ++ y ∷ ys) k ≡ first_place ys = ap (place_after (xs ++ y ∷ ys)) (sym name) ∙ after_at xs ys y.place y.element at.0 in
+        let after : place_after (xs ++ y ∷ ys) k ≡ first_place ys = ap (place_after (xs ++ y ∷ ys)) (sym name)
+        ∙ after_at xs ys y.place y.element at.0 in
         let left : without_place ys k ≡ ys = ap (without_place ys) (sym name) ∙ without_none ys y.place at.1 in
         rw t (ap first_place left ∙ sym after)
         )
@@ -136,7 +142,8 @@ module _ {E : Type 0} where
 
 module _ {E : Type 0} where
   -- the elements without a place are the same, whatever value was written there
-  pub without_written : (items : List (ChainItem (WithTicket E))) (k : ℕ) (v : E) → without_place (with_value_at k items v) k ≡ without_place items k
+  pub without_written : (items : List (ChainItem (WithTicket E))) (k : ℕ) (v : E)
+      → without_place (with_value_at k items v) k ≡ without_place items k
   without_written [] k v = refl
   without_written (x ∷ items) k v = elim (cases_Bool (k == x.place)) [
     | inl t ↦ rw (t, eq-eqb x.place k (sym (eqb-true k x.place t))) (without_written items k v)

@@ -1,8 +1,12 @@
 -- The three parts of the parked receivers' chain, and their boundaries, under each step.
-use Rattle.std.proofs.Common.{◌≡◌, ℕ, suc, ◌+◌, ◌≤◌, ◌==◌, Bool, List, [], ◌∷◌, ◌++◌, Option, Some, None, length, refl, sym, ap, ap₂, ◌∙◌, inl, inr, arith, true, false, cond, append_assoc, subst}
+use Rattle.std.proofs.Common.{◌≡◌, ℕ, suc, ◌+◌, ◌≤◌, ◌==◌, Bool, List, [], ◌∷◌, ◌++◌, Option, Some, None}
+use Rattle.std.proofs.Common.{length, refl, sym, ap, ap₂, ◌∙◌, inl, inr, arith, true, false, cond}
+use Rattle.std.proofs.Common.{append_assoc, subst}
 use Rattle.std.proofs.lemmas.Bool.{cases_Bool}
 use Rattle.std.specs.Option.{option_or}
-use Rattle.flume_state.proofs.Chains.{times, ChainItem, places, found, without_place, first_place, place_after, once_more, item, without_at, none_placed, without_place-append}
+use Rattle.flume_state.proofs.Chains.{times, ChainItem, places, found, without_place, first_place}
+use Rattle.flume_state.proofs.Chains.{place_after, once_more, item, without_at, none_placed}
+use Rattle.flume_state.proofs.Chains.{without_place-append}
 use Rattle.flume_model.specs.Entries.{is_waiting, waiting_count}
 use Rattle.flume_state.specs.layout.EntryLayout.{Each, EntryLayout, entries_in, entry_in, boundary_without}
 use Rattle.flume_state.specs.declared.entries.ParkedReceiver.{ParkedReceiver}
@@ -25,11 +29,13 @@ module _ {T S : Type 0} where
   entries-append (x ∷ xs) ys = ap (λ l. entry_in x ∷ l) (entries-append xs ys)
 
   -- as many wait in two lists joined as in the one and in the other
-  pub waits-append : (xs ys : Items T S) → waiting_count (entries_in (xs ++ ys)) ≡ waiting_count (entries_in xs) + waiting_count (entries_in ys)
+  pub waits-append : (xs ys : Items T S) → waiting_count (entries_in (xs ++ ys)) ≡ waiting_count (entries_in xs) + waiting_count
+      (entries_in ys)
   waits-append xs ys = ap waiting_count (entries-append xs ys) ∙ count-append (entries_in xs) (entries_in ys)
 
   -- a part with one more behind it
-  pub each-push : (w d : Bool) (xs : Items T S) (k : ℕ) (e : WithTicket (ParkedReceiver T S)) → Each w d xs → Is w d e → Each w d (xs ++ item k e ∷ [])
+  pub each-push : (w d : Bool) (xs : Items T S) (k : ℕ) (e : WithTicket (ParkedReceiver T S)) → Each w d xs → Is w d e
+      → Each w d (xs ++ item k e ∷ [])
   each-push w d [] k e h is = (is.0, is.1, h)
   each-push w d (x ∷ xs) k e h is = (h.0, h.1, each-push w d xs k e h.2 is)
 
@@ -42,7 +48,8 @@ module _ {T S : Type 0} where
   ]
 
   -- one more that waits and isn't due is behind all others
-  pub sorted_push : (items : Items T S) (due waits : Option ℕ) (n : ℕ) (k : ℕ) (e : WithTicket (ParkedReceiver T S)) → EntryLayout items due waits n
+  pub sorted_push : (items : Items T S) (due waits : Option ℕ) (n : ℕ) (k : ℕ) (e : WithTicket (ParkedReceiver T S))
+      → EntryLayout items due waits n
       → found items k ≡ None → Is true false e → length (items ++ item k e ∷ []) ≤ 4294967295
       → EntryLayout (items ++ item k e ∷ []) (option_or due (Some k)) (option_or waits (Some k)) (n + 1)
   sorted_push items due waits n k e s fresh is fits =
@@ -78,7 +85,8 @@ module _ {T S : Type 0} where
       omega arith
 
   -- the others, if the one at a place leaves
-  pub sorted_without : (items : Items T S) (due waits next : Option ℕ) (n m : ℕ) (k : ℕ) (e : WithTicket (ParkedReceiver T S)) → EntryLayout items due waits n
+  pub sorted_without : (items : Items T S) (due waits next : Option ℕ) (n m : ℕ) (k : ℕ) (e : WithTicket (ParkedReceiver T S))
+      → EntryLayout items due waits n
       → found items k ≡ Some e → next ≡ place_after items k → m + cond (is_waiting e.value.mark) 1 0 ≡ n
       → EntryLayout (without_place items k) (boundary_without due k next) (boundary_without waits k next) m
   sorted_without items due waits next n m k e s here after less =
@@ -90,7 +98,8 @@ module _ {T S : Type 0} where
         inactive = without_place s.inactive k;
         dues = without_place s.dues k;
         last = without_place s.last k;
-        is = ap (λ l. without_place l k) s.is ∙ without_place-append s.inactive (s.dues ++ s.last) k ∙ ap (λ l. without_place s.inactive k ++ l) inner;
+        is = ap (λ l. without_place l k) s.is ∙ without_place-append s.inactive (s.dues ++ s.last) k
+            ∙ ap (λ l. without_place s.inactive k ++ l) inner;
         are_inactive = each-without_place false false s.inactive k s.are_inactive;
         are_due = each-without_place false true s.dues k s.are_due;
         wait = each-without_place true false s.last k s.wait;
@@ -113,7 +122,8 @@ module _ {T S : Type 0} where
   waits_few items due waits n s = omega (arith, s.count, s.fits, count-le (entries_in items), length-entries items)
 
   -- some wait if one that is found does
-  pub one_waits : (items : Items T S) (due waits : Option ℕ) (n : ℕ) (k : ℕ) (e : WithTicket (ParkedReceiver T S)) → EntryLayout items due waits n
+  pub one_waits : (items : Items T S) (due waits : Option ℕ) (n : ℕ) (k : ℕ) (e : WithTicket (ParkedReceiver T S))
+      → EntryLayout items due waits n
       → found items k ≡ Some e → is_waiting e.value.mark ≡ true → 1 ≤ n
   one_waits items due waits n k e s here waits_too =
       let one : weight (entry_in (item k e)) ≡ 1 = rw waits_too refl in

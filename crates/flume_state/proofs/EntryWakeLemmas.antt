@@ -8,7 +8,8 @@ use Rattle.flume_model.specs.Entries.{waiting_count, round, round_fills, round_f
 use Rattle.flume_state.specs.Messages.{Messages}
 use Rattle.flume_state.specs.layout.EntryLayout.{first_waiting, with_first_marked}
 use Rattle.flume_state.specs.Receivers.{after_fill}
-use Rattle.flume_state.proofs.EntryRoundLemmas.{ticket_and_kind, round_on, fills_on, round_ends, fills_end, none_wait, round_idle, fills_idle}
+use Rattle.flume_state.proofs.EntryRoundLemmas.{ticket_and_kind, round_on, fills_on, round_ends, fills_end}
+use Rattle.flume_state.proofs.EntryRoundLemmas.{none_wait, round_idle, fills_idle}
 
 module _ {X : Type 0} where
   -- a list that isn't empty has a front
@@ -65,8 +66,10 @@ module _ {T S N : Type 0} where
       record { front = parts.0; rest = parts.1; queue = parts.2; stays = refl; leaves = refl; fills = refl }
 
   -- the loop goes on behind a stream
-  pub wakes_stream : (tell : N → N) (initial old new : List (Entry T N)) (line line_now : Messages T S) (t : ℕ) → Wakes tell initial old line line_now
-      → ticket_and_kind (first_waiting old) ≡ Some (t, Stream) → new ≡ with_first_marked tell Woken old → Wakes tell initial new line line_now
+  pub wakes_stream : (tell : N → N) (initial old new : List (Entry T N)) (line line_now : Messages T S) (t : ℕ)
+      → Wakes tell initial old line line_now
+      → ticket_and_kind (first_waiting old) ≡ Some (t, Stream) → new ≡ with_first_marked tell Woken old
+      → Wakes tell initial new line line_now
   wakes_stream tell initial old new line line_now t w next woken = record {
     front = w.front;
     rest = w.rest;

@@ -33,7 +33,8 @@ module _ {S : Type 0} where
         element = h.element;
         tail = h.rest;
         is = parts;
-        at = ap (λ xs. found xs p) parts ∙ seat_found l.not_due h.rest p h.element (alone l.not_due h.rest p h.element (subst Apart parts apart)).0;
+        at = ap (λ xs. found xs p) parts
+            ∙ seat_found l.not_due h.rest p h.element (alone l.not_due h.rest p h.element (subst Apart parts apart)).0;
         all_due = subst (EachDueIs true) h.is l.all_due;
       }
 

@@ -1,17 +1,23 @@
 -- The chain of the live sends seen without the places of their messages, and the link of each place, under each edit.
-use Rattle.std.proofs.Common.{◌≡◌, ◌≢◌, ℕ, ◌≤◌, ◌==◌, Bool, true, false, if◌then◌else◌, List, [], ◌∷◌, ◌++◌, Option, Some, None, ◌↔◌, refl, sym, ap, ap₂, subst, ◌∙◌, inl, inr, arith, IsSome, IfSome, IfNone, option_map, is_some}
+use Rattle.std.proofs.Common.{◌≡◌, ◌≢◌, ℕ, ◌≤◌, ◌==◌, Bool, true, false, if◌then◌else◌, List, [], ◌∷◌, ◌++◌}
+use Rattle.std.proofs.Common.{Option, Some, None, ◌↔◌, refl, sym, ap, ap₂, subst, ◌∙◌, inl, inr, arith}
+use Rattle.std.proofs.Common.{IsSome, IfSome, IfNone, option_map, is_some}
 use Rattle.std.proofs.lemmas.Bool.{cases_Bool, eqb-true}
 use Rattle.std.proofs.lemmas.List.{map-append}
 use Rattle.std.proofs.lemmas.Iterator.Adapters.{option_map_id}
 use Rattle.std.specs.FinMap.{empty, get, remove}
-use Rattle.flume_state.proofs.Chains.{ChainItem, times, places, found, without_place, put_before, first_place, place_after, with_new_value, with_value_at, times-append, with_same, item, found_none, found_put, none_placed, places-append, without_missing, places-changed_at, found-changed_at, put_before_or_last}
+use Rattle.flume_state.proofs.Chains.{ChainItem, times, places, found, without_place, put_before, first_place}
+use Rattle.flume_state.proofs.Chains.{place_after, with_new_value, with_value_at, times-append, with_same}
+use Rattle.flume_state.proofs.Chains.{item, found_none, found_put, none_placed, places-append}
+use Rattle.flume_state.proofs.Chains.{without_missing, places-changed_at, found-changed_at}
+use Rattle.flume_state.proofs.Chains.{put_before_or_last}
 use Rattle.flume_state.specs.declared.sends.LiveSend.{LiveSend}
 use Rattle.flume_state.specs.declared.sends.PlacedSend.{PlacedSend}
 use Rattle.flume_state.specs.layout.WithTicket.{WithTicket, place_of, tickets}
 use Rattle.flume_state.specs.Sends.{changed}
 use Rattle.flume_state.specs.layout.SendLayout.{Element, SendLayout, by_ticket}
 use Rattle.flume_state.specs.layout.Pairing.{SendList, Link, send_in, sends_in, live_sends, link_of, link_at}
-use Rattle.flume_state.proofs.TicketLemmas.{Amid, put_amid, without_amid, without_fresh, own, others_none}
+use Rattle.flume_state.proofs.TicketLemmas.{Amid, put_amid, without_amid, without_fresh, ticket_place}
 use Rattle.flume_state.proofs.ByTicketLemmas.{under, held, Occupied, occupied, stands_value}
 use Rattle.flume_state.proofs.EntryPartLemmas.{Apart, passes}
 use Rattle.flume_state.proofs.SendStepLemmas.{get_none, written_view, spent_view}
@@ -46,13 +52,15 @@ module _ {S : Type 0} where
   place_sends t [] = refl
   place_sends t (x ∷ xs) = ap (λ o. if x.element.label == t then Some x.place else o) (place_sends t xs)
 
-  put_before_sends : (xs : SendList S) (k : ℕ) (x : ChainItem (WithTicket (PlacedSend S))) → sends_in (put_before xs k x) ≡ put_before (sends_in xs) k (send_in x)
+  put_before_sends : (xs : SendList S) (k : ℕ) (x : ChainItem (WithTicket (PlacedSend S)))
+      → sends_in (put_before xs k x) ≡ put_before (sends_in xs) k (send_in x)
   put_before_sends [] k x = refl
   put_before_sends (y ∷ xs) k x =
       passes sends_in (k == y.place) (x ∷ y ∷ xs) (y ∷ put_before xs k x)
       ∙ ap (λ (l : List (Element S)). if k == y.place then send_in x ∷ send_in y ∷ sends_in xs else send_in y ∷ l) (put_before_sends xs k x)
 
-  pub put_sends : (xs : SendList S) (d : Option ℕ) (x : ChainItem (WithTicket (PlacedSend S))) → sends_in (put_before_or_last xs d x) ≡ put_before_or_last (sends_in xs) d (send_in x)
+  pub put_sends : (xs : SendList S) (d : Option ℕ) (x : ChainItem (WithTicket (PlacedSend S)))
+      → sends_in (put_before_or_last xs d x) ≡ put_before_or_last (sends_in xs) d (send_in x)
   put_sends xs None x = map-append send_in xs (x ∷ [])
   put_sends xs (Some k) x = put_before_sends xs k x
 
@@ -77,7 +85,8 @@ module _ {S : Type 0} where
   after_sends [] k = refl
   after_sends (x ∷ xs) k = ap₂ (λ (n o : Option ℕ). if k == x.place then n else o) (first_sends xs) (after_sends xs k)
 
-  pub after_written : (xs : SendList S) (k : ℕ) (w : PlacedSend S) → place_after (with_value_at k xs w) k ≡ place_after (with_value_at k (sends_in xs) w.send) k
+  pub after_written : (xs : SendList S) (k : ℕ) (w : PlacedSend S)
+      → place_after (with_value_at k xs w) k ≡ place_after (with_value_at k (sends_in xs) w.send) k
   after_written xs k w =
       sym (after_sends (with_value_at k xs w) k) ∙ ap (λ (l : List (Element S)). place_after l k) (written_sends xs k w)
 
@@ -91,7 +100,8 @@ module _ {S : Type 0} where
       → found xs p ≡ Some (under t o) → Seat xs p t o
   seat_of xs p t o apart single is = record {
     is = is;
-    occupied = occupied t p o.send (sends_in xs) (apart_sends xs apart) (single_sends xs single) (found_sends xs p ∙ ap (option_map bare) is);
+    occupied = occupied t p o.send (sends_in xs) (apart_sends xs apart) (single_sends xs single) (found_sends xs p
+        ∙ ap (option_map bare) is);
   }
 
   -- and if its ticket does
@@ -103,18 +113,12 @@ module _ {S : Type 0} where
       let one : r.0 ≡ o = cc in
       seat_of xs p t o apart single (r.1 ∙ ap (λ (w : PlacedSend S). Some (under t w)) one)
 
-  -- the ticket of an element is where the element is
-  pub ticket_place : (xs : SendList S) (p : ℕ) (e : WithTicket (PlacedSend S)) → Apart xs → ((u : ℕ) → times u (tickets xs) ≤ 1)
-      → found xs p ≡ Some e → place_of e.label xs ≡ Some p
-  ticket_place xs p e apart single is =
-      let at = without_amid xs p e apart is in
-      own xs (without_place xs p) (item p e) empty at e.label refl (others_none xs (without_place xs p) (item p e) empty at e.label refl (single e.label))
-
   -- a send that is read at a place is there
   pub seat : (xs : SendList S) (p : ℕ) (o : PlacedSend S) → Apart xs → ((u : ℕ) → times u (tickets xs) ≤ 1)
       → Some o ≡ option_map (λ e. e.value) (found xs p) → (t : ℕ) × Seat xs p t o
   seat xs p o apart single value =
-      elim (found xs p) as (λ (x : Option (WithTicket (PlacedSend S))). found xs p ≡ x → Some o ≡ option_map (λ e. e.value) x → (t : ℕ) × Seat xs p t o) [
+      elim (found xs p) as (λ (x : Option (WithTicket (PlacedSend S))). found xs p ≡ x → Some o ≡ option_map (λ e. e.value) x
+      → (t : ℕ) × Seat xs p t o) [
         | None ↦ λ is v. absurd (let no : ⊥ = cc in no)
         | Some e ↦ λ is v. (
             let one : e.value ≡ o = cc in
@@ -126,7 +130,8 @@ module _ {S : Type 0} where
   pub link_place : (xs : SendList S) (k : ℕ) (l : Link) → Apart xs → ((u : ℕ) → times u (tickets xs) ≤ 1)
       → link_at xs k ≡ Some l → place_of l.ticket xs ≡ Some k
   link_place xs k l apart single is =
-      elim (found xs k) as (λ (x : Option (WithTicket (PlacedSend S))). found xs k ≡ x → option_map link_of x ≡ Some l → place_of l.ticket xs ≡ Some k) [
+      elim (found xs k) as (λ (x : Option (WithTicket (PlacedSend S))). found xs k ≡ x → option_map link_of x ≡ Some l
+      → place_of l.ticket xs ≡ Some k) [
         | None ↦ λ at none. absurd (let no : ⊥ = cc in no)
         | Some e ↦ λ at some. (
             let ticket : e.label ≡ l.ticket = ap (λ (q : Link). q.ticket) (let both : link_of e ≡ l = cc in both) in
@@ -137,7 +142,8 @@ module _ {S : Type 0} where
   -- the first that is due
   pub first_sent : (xs : SendList S) (d : Option ℕ) (t p : ℕ) (o : PlacedSend S) → SendLayout (sends_in xs) d → d ≡ Some p
       → Apart xs → ((u : ℕ) → times u (tickets xs) ≤ 1)
-      → Some t ≡ option_map (λ e. e.label) (found xs p) → Some o ≡ option_map (λ e. e.value) (found xs p) → FirstDue (sends_in xs) t p o.send
+      → Some t ≡ option_map (λ e. e.label) (found xs p) → Some o ≡ option_map (λ e. e.value) (found xs p)
+      → FirstDue (sends_in xs) t p o.send
   first_sent xs d t p o l is apart single ticket value =
       let s = seat xs p o apart single value in
       let both : Some t ≡ Some s.0 = ticket ∙ ap (option_map (λ (e : WithTicket (PlacedSend S)). e.label)) s.1.is in
@@ -150,7 +156,8 @@ module _ {S : Type 0} where
   none_found f (Some e) is = absurd (let no : ⊥ = cc in no)
 
   -- and whatever is read of it is there
-  pub due_found : {X : Type 0} (f : WithTicket (PlacedSend S) → X) (xs : SendList S) (d : Option ℕ) (p : ℕ) → SendLayout (sends_in xs) d → d ≡ Some p
+  pub due_found : {X : Type 0} (f : WithTicket (PlacedSend S) → X) (xs : SendList S) (d : Option ℕ) (p : ℕ) → SendLayout (sends_in xs) d
+      → d ≡ Some p
       → Apart xs → None ≡ option_map f (found xs p) → ⊥
   due_found f xs d p l is apart none =
       due_stands (sends_in xs) d p l is (apart_sends xs apart) (found_sends xs p ∙ ap (option_map bare) (none_found f (found xs p) none))
@@ -176,7 +183,8 @@ module _ {S : Type 0} where
   link_moved xs p e apart is k =
       let at = without_amid xs p e apart is in
       let none = without_fresh xs (without_place xs p) (item p e) at (apart p) in
-      link_amid _ (without_place xs p) p e (put_amid (without_place xs p) None (item p e)) none k ∙ sym (link_amid xs (without_place xs p) p e at none k)
+      link_amid _ (without_place xs p) p e (put_amid (without_place xs p) None (item p e)) none k
+      ∙ sym (link_amid xs (without_place xs p) p e at none k)
 
   pub link_without : (xs : SendList S) (p : ℕ) (e : WithTicket (PlacedSend S)) → Apart xs → found xs p ≡ Some e
       → (k : ℕ) → link_at (without_place xs p) k ≡ (if k == p then None else link_at xs k)
@@ -188,12 +196,14 @@ module _ {S : Type 0} where
             ap (link_at (without_place xs p)) (eqb-true k p h) ∙ ap (option_map link_of) (found_none (without_place xs p) p none)
             ∙ sym (ap (λ b. if b then None else link_at xs k) h)
         | inr h ↦
-            sym (link_amid xs (without_place xs p) p e at none k ∙ ap (λ b. if b then Some (link_of e) else link_at (without_place xs p) k) h)
+            sym (link_amid xs (without_place xs p) p e at none k
+            ∙ ap (λ b. if b then Some (link_of e) else link_at (without_place xs p) k) h)
             ∙ sym (ap (λ b. if b then None else link_at xs k) h)
       ]
 
   -- the links if a value is written
-  pub link_written : (xs : SendList S) (p t : ℕ) (f : Link → Link) (o w : PlacedSend S) → link_of (under t w) ≡ f (link_of (under t o)) → found xs p ≡ Some (under t o)
+  pub link_written : (xs : SendList S) (p t : ℕ) (f : Link → Link) (o w : PlacedSend S) → link_of (under t w) ≡ f (link_of (under t o))
+      → found xs p ≡ Some (under t o)
       → (k : ℕ) → link_at (with_value_at p xs w) k ≡ (if k == p then option_map f (link_at xs k) else link_at xs k)
   link_written xs p t f o w same is k =
       ap (option_map link_of) (found-changed_at (with_new_value w) xs p k)
@@ -209,7 +219,8 @@ module _ {S : Type 0} where
       ]
 
   -- and if the written one has the same link
-  pub link_kept : (xs : SendList S) (p t : ℕ) (o w : PlacedSend S) → link_of (under t w) ≡ link_of (under t o) → found xs p ≡ Some (under t o)
+  pub link_kept : (xs : SendList S) (p t : ℕ) (o w : PlacedSend S) → link_of (under t w) ≡ link_of (under t o)
+      → found xs p ≡ Some (under t o)
       → (k : ℕ) → link_at (with_value_at p xs w) k ≡ link_at xs k
   link_kept xs p t o w same is k = link_written xs p t (λ l. l) o w same is k ∙ inner (k == p) (link_at xs k)
     where
@@ -218,7 +229,8 @@ module _ {S : Type 0} where
       inner false x = refl
 
   -- what a send that is written leaves
-  pub live_written : (xs : SendList S) (p t : ℕ) (o w : PlacedSend S) (f : LiveSend S → LiveSend S) → w.send ≡ f o.send → Occupied t p o.send (sends_in xs)
+  pub live_written : (xs : SendList S) (p t : ℕ) (o w : PlacedSend S) (f : LiveSend S → LiveSend S) → w.send ≡ f o.send
+      → Occupied t p o.send (sends_in xs)
       → live_sends (with_value_at p xs w) ≡ changed (live_sends xs) t f
   live_written xs p t o w f same s =
       ap by_ticket (written_sends xs p w ∙ ap (with_value_at p (sends_in xs)) same) ∙ written_view (sends_in xs) t p o.send f s
@@ -230,10 +242,12 @@ module _ {S : Type 0} where
 
   pub moved : (xs new : SendList S) (p t : ℕ) (o w : PlacedSend S) (r : Bool) → Apart xs → Seat xs p t o
       → (r ≡ true ↔ IsSome (found (with_value_at p xs w) p))
-      → (r ≡ true → (e : WithTicket (PlacedSend S)) → found (with_value_at p xs w) p ≡ Some e → new ≡ without_place (with_value_at p xs w) p ++ item p e ∷ [])
+      → (r ≡ true → (e : WithTicket (PlacedSend S)) → found (with_value_at p xs w) p ≡ Some e
+      → new ≡ without_place (with_value_at p xs w) p ++ item p e ∷ [])
       → Moved xs new p t w
   moved xs new p t o w r apart s stood back =
-      let at = found-changed_at (with_new_value w) xs p p ∙ with_same (found xs) p (option_map (with_new_value w) (found xs p)) ∙ ap (option_map (with_new_value w)) s.is in
+      let at = found-changed_at (with_new_value w) xs p p ∙ with_same (found xs) p (option_map (with_new_value w) (found xs p))
+      ∙ ap (option_map (with_new_value w)) s.is in
       let is = back (stood.1 (ap is_some at)) (under t w) at in
       record {
         sends =
@@ -269,7 +283,8 @@ module _ {S : Type 0} where
         | Some e ↦ λ is. (
             let r = seat xs p e.value apart single (sym (ap (option_map (λ (x : WithTicket (PlacedSend S)). x.value)) is)) in
             record {
-              live = rw r.1.is (ap by_ticket (ap sends_in taken ∙ without_sends xs p) ∙ spent_view (sends_in xs) r.0 p e.value.send r.1.occupied);
+              live = rw r.1.is (ap by_ticket (ap sends_in taken ∙ without_sends xs p)
+                  ∙ spent_view (sends_in xs) r.0 p e.value.send r.1.occupied);
               link = λ k. ap (λ y. link_at y k) taken ∙ link_without xs p e apart is k;
               none = rw r.1.is tt;
             }
@@ -286,7 +301,8 @@ module _ {S : Type 0} where
       let r = held t p xs apart (sym is) in
       let s = seat_of xs p t r.0 apart single r.1 in (
         ap (λ x. option_map (λ l. l.ticket) (option_map link_of x)) s.is,
-        ap (λ x. option_map (λ l. l.accepted) (option_map link_of x)) s.is ∙ sym (ap (option_map (λ s. s.accepted)) (stands_value t p r.0.send (sends_in xs) s.occupied)),
+        ap (λ x. option_map (λ l. l.accepted) (option_map link_of x)) s.is
+            ∙ sym (ap (option_map (λ s. s.accepted)) (stands_value t p r.0.send (sends_in xs) s.occupied)),
         tt,
       )
 

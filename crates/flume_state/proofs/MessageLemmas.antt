@@ -1,7 +1,10 @@
 -- The messages of a chain under its methods.
-use Rattle.std.proofs.Common.{◌≡◌, ℕ, suc, ◌-◌, List, [], ◌∷◌, ◌++◌, length, Option, Some, None, Result, Ok, Err, refl, sym, ap, ◌∙◌, arith, length-append, OnErr, append-nil}
+use Rattle.std.proofs.Common.{◌≡◌, ℕ, suc, ◌-◌, List, [], ◌∷◌, ◌++◌, length, Option, Some, None, Result, Ok}
+use Rattle.std.proofs.Common.{Err, refl, sym, ap, ◌∙◌, arith, length-append, OnErr, append-nil}
 use Rattle.flume_chain.specs.ChainState.{ChainItem}
-use Rattle.flume_state.specs.layout.MessageLayout.{Message, BlockedAt, MessageList, queued_ahead, blocked_ahead, queued_of, blocked_of, messages_of, MessageLayout}
+use Rattle.flume_state.specs.layout.MessageLayout.{Message, BlockedAt, MessageList, queued_ahead}
+use Rattle.flume_state.specs.layout.MessageLayout.{blocked_ahead, queued_of, blocked_of, messages_of}
+use Rattle.flume_state.specs.layout.MessageLayout.{MessageLayout}
 
 module _ {T : Type 0} where
   -- if none is queued, the first isn't, and it has an owner
@@ -19,7 +22,8 @@ module _ {T : Type 0} where
   queued_append (x ∷ xs) ys = queued_ahead_append x.element.label x.element.value _ _ _ (queued_append xs ys)
 
   -- two rows of blocked messages are joined
-  blocked_ahead_append : (k : ℕ) (o : Option ℕ) (m : T) (ls ms ns : List (BlockedAt T)) → ls ≡ ms ++ ns → blocked_ahead k o m ls ≡ blocked_ahead k o m ms ++ ns
+  blocked_ahead_append : (k : ℕ) (o : Option ℕ) (m : T) (ls ms ns : List (BlockedAt T)) → ls ≡ ms ++ ns
+      → blocked_ahead k o m ls ≡ blocked_ahead k o m ms ++ ns
   blocked_ahead_append k None m ls ms ns h = h
   blocked_ahead_append k (Some t) m ls ms ns h = ap (λ (l : List (BlockedAt T)). record { place = k; send_place = t; message = m } ∷ l) h
 
@@ -62,7 +66,8 @@ module _ {T : Type 0} where
   messages_joined : (xs ys : List (ChainItem (Message T))) (space : ℕ) → blocked_of xs ≡ [] → queued_of ys ≡ []
       → messages_of (xs ++ ys) space ≡ record { queued = queued_of xs; blocked = blocked_of ys; space = space }
   messages_joined xs ys space none_blocked none_queued =
-      let queued : queued_of (xs ++ ys) ≡ queued_of xs = queued_append xs ys ∙ ap (λ l. queued_of xs ++ l) none_queued ∙ append-nil (queued_of xs) in
+      let queued : queued_of (xs ++ ys) ≡ queued_of xs = queued_append xs ys ∙ ap (λ l. queued_of xs ++ l) none_queued
+      ∙ append-nil (queued_of xs) in
       let blocked : blocked_of (xs ++ ys) ≡ blocked_of ys = blocked_append xs ys ∙ ap (λ l. l ++ blocked_of ys) none_blocked in
       λ i. record { queued = queued i; blocked = blocked i; space = space }
 
@@ -72,7 +77,8 @@ module _ {T : Type 0} where
   laid items first count space w = ap (λ l. messages_of l space) w.is ∙ messages_joined w.front w.back space w.none_blocked w.none_queued
 
   -- how many are queued, and how many blocked
-  pub counts : (items : List (ChainItem (Message T))) (first : Option ℕ) (count space : ℕ) (list : MessageList T) → MessageLayout items first count
+  pub counts : (items : List (ChainItem (Message T))) (first : Option ℕ) (count space : ℕ) (list : MessageList T)
+      → MessageLayout items first count
       → messages_of items space ≡ list → (length items - count ≡ length list.queued) × (count ≡ length list.blocked)
   counts items first count space list w view =
       let is = sym (laid items first count space w) ∙ view in
@@ -88,7 +94,8 @@ on_err (Ok x) P holds = tt
 on_err (Err e) P holds = holds
 
 -- messages of which none is queued
-pub none_left : {T : Type 0} (first list new : MessageList T) → new ≡ list → list.queued ≡ [] → list.blocked ≡ first.blocked → list.space ≡ first.space
+pub none_left : {T : Type 0} (first list new : MessageList T) → new ≡ list → list.queued ≡ [] → list.blocked ≡ first.blocked
+    → list.space ≡ first.space
     → new ≡ record first { queued = [] }
 none_left {T} first list new same none blocked space =
     same ∙ (λ i. record { queued = none i; blocked = blocked i; space = space i })

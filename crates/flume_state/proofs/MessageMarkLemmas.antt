@@ -1,5 +1,7 @@
 -- The walk along the blocked messages of a chain, which marks the send of each.
-use Rattle.std.proofs.Common.{◌≡◌, ℕ, suc, ◌<◌, ◌==◌, List, [], ◌∷◌, ◌++◌, length, Option, Some, None, refl, sym, ap, subst, ◌∙◌, arith, if◌then◌else◌, eq-eqb, IfSome, All, option_and_then, append_assoc}
+use Rattle.std.proofs.Common.{◌≡◌, ℕ, suc, ◌<◌, ◌==◌, List, [], ◌∷◌, ◌++◌, length, Option, Some, None, refl}
+use Rattle.std.proofs.Common.{sym, ap, subst, ◌∙◌, arith, if◌then◌else◌, eq-eqb, IfSome, All, option_and_then}
+use Rattle.std.proofs.Common.{append_assoc}
 use Rattle.std.proofs.lemmas.List.Elements.{All-head, All-tail}
 use Rattle.flume_state.proofs.Chains.{ChainItem, times, places, first_place, place_after, once_none, once_back, item, after_at}
 use Rattle.flume_state.specs.Notices.{due_now}
@@ -22,7 +24,8 @@ module _ {E : Type 0} where
       if k == x.place then suc (length items) else left_from items (Some k)
 
   -- from the place of one among others on, it and those behind it are left
-  left_here : (xs ys : List (ChainItem E)) (x : ChainItem E) → times x.place (places xs) ≡ 0 → left_from (xs ++ x ∷ ys) (Some x.place) ≡ suc (length ys)
+  left_here : (xs ys : List (ChainItem E)) (x : ChainItem E) → times x.place (places xs) ≡ 0
+      → left_from (xs ++ x ∷ ys) (Some x.place) ≡ suc (length ys)
   left_here [] ys x none = ap (λ b. if b then suc (length ys) else left_from ys (Some x.place)) (eq-eqb x.place x.place refl)
   left_here (y ∷ xs) ys x none =
       ap (λ b. if b then suc (length (xs ++ x ∷ ys)) else left_from (xs ++ x ∷ ys) (Some x.place))
@@ -55,11 +58,13 @@ module _ {T S : Type 0} where
   one_marked place (Some send_place) m bs initial sends new done w marked =
       let one = All-head (HasLink initial) _ bs w.held in
       let live : live_sends new ≡ noticed_send due_now one.ticket (live_sends sends) =
-      subst (λ o. IfSome o (λ l. live_sends new ≡ noticed_send due_now l.ticket (live_sends sends))) (w.links send_place ∙ one.is) marked.0 in
+      subst (λ o. IfSome o (λ l. live_sends new ≡ noticed_send due_now l.ticket (live_sends sends))) (w.links send_place
+      ∙ one.is) marked.0 in
       record {
         held = All-tail (HasLink initial) _ bs w.held;
         links = λ k. marked.1 k ∙ w.links k;
-        marks = ap (with_all_due (under_tickets initial bs)) (live ∙ ap (λ n. noticed_send due_now n (live_sends sends)) (sym (ticket_by initial send_place _ one.is))) ∙ w.marks;
+        marks = ap (with_all_due (under_tickets initial bs)) (live
+            ∙ ap (λ n. noticed_send due_now n (live_sends sends)) (sym (ticket_by initial send_place _ one.is))) ∙ w.marks;
       }
 
   -- the walk has come to a place, from which on those are left that are to be marked
@@ -89,14 +94,16 @@ module _ {T S : Type 0} where
   pub walk_ends : (items : List (ChainItem (Message T))) (at : Option ℕ) (initial sends : SendList S) (done : SendMap S)
       → Walks items at initial sends done → at ≡ None → live_sends sends ≡ done
   walk_ends items at initial sends done w none =
-      ap (λ r. with_all_due (under_tickets initial (blocked_of r)) (live_sends sends)) (sym (no_first w.rest (sym none ∙ w.here))) ∙ w.left.marks
+      ap (λ r. with_all_due (under_tickets initial (blocked_of r)) (live_sends sends)) (sym (no_first w.rest (sym none ∙ w.here)))
+      ∙ w.left.marks
 
   -- a step of the walk: fewer are left, and the one that it was at is marked
   pub record Stepped (items : List (ChainItem (Message T))) (place : ℕ) (initial sends : SendList S) (done : SendMap S) : Type 0 where
     pub on : (new : SendList S) → Marks (send_place_at items place) sends new → Walks items (place_after items place) initial new done
     pub fewer : left_from items (place_after items place) < left_from items (Some place)
 
-  pub walk_steps : (items : List (ChainItem (Message T))) (at : Option ℕ) (place : ℕ) (initial sends : SendList S) (done : SendMap S) → Apart items
+  pub walk_steps : (items : List (ChainItem (Message T))) (at : Option ℕ) (place : ℕ) (initial sends : SendList S) (done : SendMap S)
+      → Apart items
       → Walks items at initial sends done → at ≡ Some place → Stepped items place initial sends done
   walk_steps items at place initial sends done apart w some =
       let h = front_at w.rest place (sym some ∙ w.here) in
@@ -106,9 +113,11 @@ module _ {T S : Type 0} where
       let none = (alone w.before h.rest place h.element one).0 in
       let send_place : send_place_at items place ≡ h.element.label =
       ap (λ l. send_place_at l place) split ∙ ap (option_and_then (λ e. e.label)) (found_here w.before h.rest x one) in
-      let after : place_after items place ≡ first_place h.rest = ap (λ l. place_after l place) split ∙ after_at w.before h.rest place h.element none in
+      let after : place_after items place ≡ first_place h.rest = ap (λ l. place_after l place) split
+      ∙ after_at w.before h.rest place h.element none in
       let moved : items ≡ (w.before ++ x ∷ []) ++ h.rest = split ∙ sym (append_assoc w.before (x ∷ []) h.rest) in
-      let now : left_from items (Some place) ≡ suc (length h.rest) = ap (λ l. left_from l (Some place)) split ∙ left_here w.before h.rest x none in
+      let now : left_from items (Some place) ≡ suc (length h.rest) = ap (λ l. left_from l (Some place)) split
+      ∙ left_here w.before h.rest x none in
       let behind : left_from items (place_after items place) ≡ length h.rest =
       ap (left_from items) after ∙ ap (λ l. left_from l (first_place h.rest)) moved
       ∙ left_first (w.before ++ x ∷ []) h.rest (subst Apart moved apart) in

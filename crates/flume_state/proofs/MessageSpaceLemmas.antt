@@ -1,12 +1,16 @@
 -- How many messages may be in a chain before more memory is wanted, under its methods.
-use Rattle.std.proofs.Common.{◌≡◌, ◌<◌, ◌≤◌, ◌+◌, ℕ, zero, suc, List, [], ◌∷◌, length, Option, Some, None, refl, ap, ◌∙◌, arith, length-append}
-use Rattle.flume_state.proofs.Chains.{ChainState, ChainItem, found, without_place, behind_first, first_element, times, places, length-put_before, length-without_place, with_new_label, with_label_at, length-changed_at, put_before_or_last}
+use Rattle.std.proofs.Common.{◌≡◌, ◌<◌, ◌≤◌, ◌+◌, ℕ, zero, suc, List, [], ◌∷◌, length, Option, Some, None}
+use Rattle.std.proofs.Common.{refl, ap, ◌∙◌, arith, length-append}
+use Rattle.flume_state.proofs.Chains.{ChainState, ChainItem, found, without_place, behind_first}
+use Rattle.flume_state.proofs.Chains.{first_element, times, places, length-put_before, length-without_place}
+use Rattle.flume_state.proofs.Chains.{with_new_label, with_label_at, length-changed_at, put_before_or_last}
 use Rattle.flume_state.specs.layout.MessageLayout.{Message, MessageList, messages_in_chain, messages_of, space_of, MessageLayout}
 use Rattle.flume_state.proofs.MessageLemmas.{counts}
 
 module _ {T : Type 0} where
   -- there is one more
-  pub length-put : (items : List (ChainItem (Message T))) (next : Option ℕ) (x : ChainItem (Message T)) → length (put_before_or_last items next x) ≡ suc (length items)
+  pub length-put : (items : List (ChainItem (Message T))) (next : Option ℕ) (x : ChainItem (Message T))
+      → length (put_before_or_last items next x) ≡ suc (length items)
   length-put items None x = length-append items (x ∷ []) ∙ omega arith
   length-put items (Some k) x = length-put_before items k x
 
@@ -23,7 +27,8 @@ module _ {T : Type 0} where
           omega arith
 
   -- there are as many messages as elements
-  pub total : (items : List (ChainItem (Message T))) (first : Option ℕ) (n space : ℕ) (list : MessageList T) → MessageLayout items first n → messages_of items space ≡ list
+  pub total : (items : List (ChainItem (Message T))) (first : Option ℕ) (n space : ℕ) (list : MessageList T) → MessageLayout items first n
+      → messages_of items space ≡ list
       → messages_in_chain list ≡ length items
   total items first n space list w view =
       let both = counts items first n space list w view in
@@ -40,7 +45,8 @@ module _ {T : Type 0} where
       omega (arith, all, space, more)
 
   -- a take from a place leaves the space
-  pub space_without : (old new : ChainState (Message T)) (place : ℕ) (e : Message T) → times place (places old.items) ≤ 1 → found old.items place ≡ Some e
+  pub space_without : (old new : ChainState (Message T)) (place : ℕ) (e : Message T) → times place (places old.items) ≤ 1
+      → found old.items place ≡ Some e
       → new.items ≡ without_place old.items place → new.room ≡ old.room + 1 → space_of old ≡ space_of new
   space_without old new place e apart there left room =
       let less = length-without_place old.items place e apart there in
@@ -48,7 +54,8 @@ module _ {T : Type 0} where
       omega (arith, less, long, room)
 
   -- and so does a take of the first
-  pub space_behind : (old new : ChainState (Message T)) (e : Message T) → first_element old.items ≡ Some e → new.items ≡ behind_first old.items
+  pub space_behind : (old new : ChainState (Message T)) (e : Message T) → first_element old.items ≡ Some e
+      → new.items ≡ behind_first old.items
       → new.room ≡ old.room + 1 → space_of old ≡ space_of new
   space_behind old new e first left room =
       let less = behind old.items e first in

@@ -1,8 +1,12 @@
 -- What each method leaves of messages that are laid out, and what its callers see of that.
-use Rattle.std.proofs.Common.{◌≡◌, ◌≢◌, ℕ, ◌-◌, List, [], ◌∷◌, ◌++◌, length, Option, Some, None, refl, sym, ap, ap₂, subst, ◌∙◌, arith, length-append, append_assoc}
+use Rattle.std.proofs.Common.{◌≡◌, ◌≢◌, ℕ, ◌-◌, List, [], ◌∷◌, ◌++◌, length, Option, Some, None, refl, sym}
+use Rattle.std.proofs.Common.{ap, ap₂, subst, ◌∙◌, arith, length-append, append_assoc}
 use Rattle.std.specs.Option.{option_or, option_and_then}
-use Rattle.flume_state.proofs.Chains.{ChainItem, first_place, found, without_place, behind_first, first_element, place_after, with_label_at, with_new_label, item, after_at, put_before_or_last}
-use Rattle.flume_state.specs.layout.MessageLayout.{Message, BlockedAt, MessageList, AdmitsSend, blocked_ahead, queued_of, blocked_of, messages_of, MessageLayout}
+use Rattle.flume_state.proofs.Chains.{ChainItem, first_place, found, without_place, behind_first}
+use Rattle.flume_state.proofs.Chains.{first_element, place_after, with_label_at, with_new_label, item}
+use Rattle.flume_state.proofs.Chains.{after_at, put_before_or_last}
+use Rattle.flume_state.specs.layout.MessageLayout.{Message, BlockedAt, MessageList, AdmitsSend, blocked_ahead}
+use Rattle.flume_state.specs.layout.MessageLayout.{queued_of, blocked_of, messages_of, MessageLayout}
 use Rattle.flume_state.proofs.EntryPartLemmas.{Apart, alone, first-push, front_at}
 use Rattle.flume_state.proofs.PlacedLemmas.{found_here, without_here, edited_here, put_ahead_between, first_left}
 use Rattle.flume_state.proofs.MessageLemmas.{queued_append, blocked_append, none_queued_append, unqueued, unblocked, laid, counts}
@@ -26,9 +30,11 @@ module _ {T : Type 0} where
   blocked_at place t m = record { place = place; element = record { label = Some t; value = m } }
 
   -- a message that joins the queue is between both parts
-  pub queues : (items new : List (ChainItem (Message T))) (first label : Option ℕ) (count place space more : ℕ) (m : T) (list : MessageList T)
+  pub queues : (items new : List (ChainItem (Message T))) (first label : Option ℕ) (count place space more : ℕ) (m : T)
+      (list : MessageList T)
       → MessageLayout items first count → messages_of items space ≡ list → Apart items
-      → new ≡ put_before_or_last items first (record { place = place; element = record { label = label; value = m } }) → label ≡ None → Lays new first count (record list { queued = list.queued ++ m ∷ []; space = more })
+      → new ≡ put_before_or_last items first (record { place = place; element = record { label = label; value = m } }) → label ≡ None
+      → Lays new first count (record list { queued = list.queued ++ m ∷ []; space = more })
   queues items new first label count place space more m list w view apart is none =
       let x = queued_at place m in
       let joined : new ≡ w.front ++ x ∷ [] ++ w.back =
@@ -47,20 +53,25 @@ module _ {T : Type 0} where
       record {
         layout = made;
         view = laid new first count more made
-            ∙ ap (λ (q : List T). let l : MessageList T = record { queued = q; blocked = blocked_of w.back; space = more } in l) (queued_append w.front (x ∷ []))
-            ∙ ap (λ (l : MessageList T). record l { queued = l.queued ++ m ∷ []; space = more }) (sym (laid items first count space w) ∙ view);
+            ∙ ap (λ (q : List T). let l : MessageList T = record { queued = q; blocked = blocked_of w.back; space = more } in l)
+            (queued_append w.front (x ∷ []))
+            ∙ ap (λ (l : MessageList T). record l { queued = l.queued ++ m ∷ []; space = more }) (sym (laid items first count space w)
+            ∙ view);
       }
 
   -- a message that blocks is behind all others
-  pub blocks : (items new : List (ChainItem (Message T))) (first label : Option ℕ) (count place space more t queued all : ℕ) (m : T) (list : MessageList T)
+  pub blocks : (items new : List (ChainItem (Message T))) (first label : Option ℕ) (count place space more t queued all : ℕ) (m : T)
+      (list : MessageList T)
       → MessageLayout items first count → messages_of items space ≡ list
-      → new ≡ items ++ record { place = place; element = record { label = label; value = m } } ∷ [] → label ≡ Some t → queued ≡ length list.queued → all ≡ length new
+      → new ≡ items ++ record { place = place; element = record { label = label; value = m } } ∷ [] → label ≡ Some t
+      → queued ≡ length list.queued → all ≡ length new
       → Lays new (option_or first (Some place)) (all - queued)
       (record list { blocked = list.blocked ++ record { place = place; send_place = t; message = m } ∷ []; space = more })
   blocks items new first label count place space more t queued all m list w view is has are total =
       let x = blocked_at place t m in
       let joined : new ≡ w.front ++ (w.back ++ x ∷ []) =
-      is ∙ ap (λ l. items ++ record { place = place; element = record { label = l; value = m } } ∷ []) has ∙ ap (λ (l : List (ChainItem (Message T))). l ++ x ∷ []) w.is ∙ append_assoc w.front w.back (x ∷ []) in
+      is ∙ ap (λ l. items ++ record { place = place; element = record { label = l; value = m } } ∷ []) has
+      ∙ ap (λ (l : List (ChainItem (Message T))). l ++ x ∷ []) w.is ∙ append_assoc w.front w.back (x ∷ []) in
       let made : MessageLayout new (option_or first (Some place)) (all - queued) = record {
         front = w.front;
         back = w.back ++ x ∷ [];
@@ -79,8 +90,17 @@ module _ {T : Type 0} where
       record {
         layout = made;
         view = laid new _ _ more made
-            ∙ ap (λ (b : List (BlockedAt T)). let l : MessageList T = record { queued = queued_of w.front; blocked = b; space = more } in l) (blocked_append w.back (x ∷ []))
-            ∙ ap (λ (l : MessageList T). record l { blocked = l.blocked ++ record { place = place; send_place = t; message = m } ∷ []; space = more })
+            ∙ ap (λ (b : List (BlockedAt T)). let l : MessageList T = record { queued = queued_of w.front; blocked = b; space = more } in
+            l) (blocked_append w.back (x ∷ []))
+            ∙ ap (λ (l : MessageList T). record l {
+              blocked = l.blocked ++ record {
+                place = place;
+                send_place = t;
+                message =
+                    m;
+              } ∷ [];
+              space = more;
+            })
             (sym (laid items first count space w) ∙ view);
       }
 
@@ -95,9 +115,11 @@ module _ {T : Type 0} where
       → MessageLayout items first count → messages_of items space ≡ list → length list.queued ≢ 0 → new ≡ behind_first items
       → Takes items new first count space list
   takes items new first count space list w view some rest = elim w.front as (λ l. w.front ≡ l → Takes items new first count space list) [
-    | [] ↦ λ is. absurd (some (ap (λ (m : MessageList T). length m.queued) (sym view ∙ laid items first count space w) ∙ ap (λ l. length (queued_of l)) is))
+    | [] ↦ λ is. absurd (some (ap (λ (m : MessageList T). length m.queued) (sym view ∙ laid items first count space w)
+        ∙ ap (λ l. length (queued_of l)) is))
     | x ∷ front ↦ λ is. (
-        let head = unblocked x.place x.element.label x.element.value (queued_of front) (blocked_of front) (sym (ap blocked_of is) ∙ w.none_blocked) in
+        let head = unblocked x.place x.element.label x.element.value (queued_of front) (blocked_of front) (sym (ap blocked_of is)
+        ∙ w.none_blocked) in
         let split : items ≡ x ∷ (front ++ w.back) = w.is ∙ ap (λ l. l ++ w.back) is in
         let made : MessageLayout new first count = record {
           front = front;
@@ -113,7 +135,8 @@ module _ {T : Type 0} where
           is_first = ap first_element split;
           layout = made;
           view = sym view ∙ laid items first count space w
-              ∙ ap (λ (q : List T). let l : MessageList T = record { queued = q; blocked = blocked_of w.back; space = space } in l) (ap queued_of is ∙ head.2)
+              ∙ ap (λ (q : List T). let l : MessageList T = record { queued = q; blocked = blocked_of w.back; space = space } in l)
+              (ap queued_of is ∙ head.2)
               ∙ ap (λ (l : MessageList T). record l { queued = x.element.value ∷ l.queued }) (sym (laid new first count space made));
         }
         )
@@ -125,11 +148,14 @@ module _ {T : Type 0} where
     pub among : items ≡ front ++ before ++ x ∷ after
     pub send_place : ℕ
     pub has : x.element.label ≡ Some send_place
-    pub all : list.blocked ≡ blocked_of before ++ record { place = x.place; send_place = send_place; message = x.element.value } ∷ blocked_of after
+    pub all : list.blocked ≡ blocked_of before ++ record { place = x.place; send_place = send_place; message = x.element.value }
+        ∷ blocked_of after
     pub others : queued_of (before ++ after) ≡ []
 
-  pub occupied : (items before after : List (ChainItem (Message T))) (first : Option ℕ) (count space : ℕ) (x : ChainItem (Message T)) (list : MessageList T)
-      → (w : MessageLayout items first count) → messages_of items space ≡ list → w.back ≡ before ++ x ∷ after → Occupied items list w.front before after x
+  pub occupied : (items before after : List (ChainItem (Message T))) (first : Option ℕ) (count space : ℕ) (x : ChainItem (Message T))
+      (list : MessageList T)
+      → (w : MessageLayout items first count) → messages_of items space ≡ list → w.back ≡ before ++ x ∷ after
+      → Occupied items list w.front before after x
   occupied items before after first count space x list w view split =
       let none = none_queued_append before (x ∷ after) (ap queued_of (sym split) ∙ w.none_queued) in
       let own = unqueued x.element.label x.element.value (queued_of after) none.1 in
@@ -150,14 +176,16 @@ module _ {T : Type 0} where
 
   -- one of the blocked messages leaves
   pub leaves : (items new before after : List (ChainItem (Message T))) (first next : Option ℕ) (count space : ℕ) (x : ChainItem (Message T))
-      (list : MessageList T) (w : MessageLayout items first count) → Occupied items list w.front before after x → messages_of items space ≡ list
+      (list : MessageList T) (w : MessageLayout items first count) → Occupied items list w.front before after x
+      → messages_of items space ≡ list
       → w.back ≡ before ++ x ∷ after → Apart items → FirstWithout items first next x.place → new ≡ without_place items x.place
       → Lays new next (count - 1) (record list { blocked = blocked_of before ++ blocked_of after })
   leaves items new before after first next count space x list w s view split apart firsts is =
       let made : MessageLayout new next (count - 1) = record {
         front = w.front;
         back = before ++ after;
-        is = is ∙ ap (λ (l : List (ChainItem (Message T))). without_place l x.place) s.among ∙ without_here (w.front ++ before) after x (subst Apart s.among apart) ∙ append_assoc w.front before after;
+        is = is ∙ ap (λ (l : List (ChainItem (Message T))). without_place l x.place) s.among
+            ∙ without_here (w.front ++ before) after x (subst Apart s.among apart) ∙ append_assoc w.front before after;
         none_blocked = w.none_blocked;
         none_queued = s.others;
         boundary = first_left items w.front before after x first next apart s.among (w.boundary ∙ ap first_place split) firsts.0 firsts.1;
@@ -170,19 +198,27 @@ module _ {T : Type 0} where
       record {
         layout = made;
         view = laid new next (count - 1) list.space made
-            ∙ ap (λ (b : List (BlockedAt T)). let l : MessageList T = record { queued = queued_of w.front; blocked = b; space = list.space } in l) (blocked_append before after)
-            ∙ ap (λ (l : MessageList T). record l { blocked = blocked_of before ++ blocked_of after; space = list.space }) (sym (laid items first count space w) ∙ view);
+            ∙ ap (λ (b : List (BlockedAt T)). let l : MessageList T = record {
+              queued = queued_of w.front;
+              blocked = b;
+              space =
+                  list.space;
+            } in l) (blocked_append before after)
+            ∙ ap (λ (l : MessageList T). record l { blocked = blocked_of before ++ blocked_of after; space = list.space })
+            (sym (laid items first count space w) ∙ view);
       }
 
   -- the first blocked message joins the queue
-  pub record Admitted (items new : List (ChainItem (Message T))) (next : Option ℕ) (left space place : ℕ) (list : MessageList T) : Type 0 where
+  pub record Admitted (items new : List (ChainItem (Message T))) (next : Option ℕ) (left space place : ℕ)
+      (list : MessageList T) : Type 0 where
     pub send_place : ℕ
     pub is_first : send_place_at items place ≡ Some send_place
     pub layout : MessageLayout new next left
     pub admits : AdmitsSend list (messages_of new space) send_place
 
   pub admitted : (items new : List (ChainItem (Message T))) (first next : Option ℕ) (count space place : ℕ) (list : MessageList T)
-      → MessageLayout items first count → messages_of items space ≡ list → Apart items → first ≡ Some place → new ≡ with_label_at place items None
+      → MessageLayout items first count → messages_of items space ≡ list → Apart items → first ≡ Some place
+      → new ≡ with_label_at place items None
       → next ≡ place_after new place → Admitted items new next (count - 1) space place list
   admitted items new first next count space place list w view apart some is behind =
       let h = front_at w.back place (sym some ∙ w.boundary) in
@@ -192,7 +228,8 @@ module _ {T : Type 0} where
       let one = subst Apart among apart in
       let y = queued_at place h.element.value in
       let joined : new ≡ w.front ++ y ∷ h.rest =
-      is ∙ ap (λ (l : List (ChainItem (Message T))). with_label_at place l None) among ∙ edited_here (with_new_label None) w.front h.rest x one in
+      is ∙ ap (λ (l : List (ChainItem (Message T))). with_label_at place l None) among
+      ∙ edited_here (with_new_label None) w.front h.rest x one in
       let made : MessageLayout new next (count - 1) = record {
         front = w.front ++ y ∷ [];
         back = h.rest;
@@ -212,7 +249,8 @@ module _ {T : Type 0} where
           place = place;
           message = h.element.value;
           leaves = s.all
-              ∙ ap (λ (l : MessageList T). record { place = place; send_place = s.send_place; message = h.element.value } ∷ l.blocked) (sym (laid new next (count - 1) space made));
+              ∙ ap (λ (l : MessageList T). record { place = place; send_place = s.send_place; message = h.element.value } ∷ l.blocked)
+              (sym (laid new next (count - 1) space made));
           joins = ap (λ (l : MessageList T). l.queued) (laid new next (count - 1) space made) ∙ queued_append w.front (y ∷ [])
               ∙ ap (λ (l : MessageList T). l.queued ++ h.element.value ∷ []) (sym (laid items first count space w) ∙ view);
           same_space = ap (λ (l : MessageList T). l.space) view;

@@ -1,7 +1,9 @@
 -- Elements in order, each place of one at most: one among others, and what is read and written there.
 use Rattle.std.proofs.Common.{◌≡◌, ◌≢◌, ℕ, List, [], ◌∷◌, ◌++◌, Option, Some, sym, ap, subst, ◌∙◌, arith}
 use Rattle.std.proofs.lemmas.List.{map-append, append-nil}
-use Rattle.flume_state.proofs.Chains.{once, times, ChainItem, places, found, without_place, first_place, place_after, times-append, once_same, changed_at, without_at, put_before_at, after_at, put_before_or_last}
+use Rattle.flume_state.proofs.Chains.{once, times, ChainItem, places, found, without_place, first_place}
+use Rattle.flume_state.proofs.Chains.{place_after, times-append, once_same, changed_at, without_at}
+use Rattle.flume_state.proofs.Chains.{put_before_at, after_at, put_before_or_last}
 use Rattle.flume_state.proofs.EntryPartLemmas.{Apart, alone, edited_at, seat_found}
 
 module _ {E : Type 0} where
@@ -32,7 +34,8 @@ module _ {E : Type 0} where
   -- was the first
   pub first_left : (items front before after : List (ChainItem E)) (x : ChainItem E) (first next : Option ℕ) → Apart items
       → items ≡ front ++ before ++ x ∷ after → first ≡ first_place (before ++ x ∷ after)
-      → (first ≡ Some x.place → next ≡ place_after items x.place) → (first ≢ Some x.place → next ≡ first) → next ≡ first_place (before ++ after)
+      → (first ≡ Some x.place → next ≡ place_after items x.place) → (first ≢ Some x.place → next ≡ first)
+      → next ≡ first_place (before ++ after)
   first_left items front [] after x first next apart is begins same other =
       same begins ∙ ap (λ (l : List (ChainItem E)). place_after l x.place) is
       ∙ after_at (front ++ []) after x.place x.element (alone (front ++ []) after x.place x.element (subst Apart is apart)).0

@@ -1,5 +1,6 @@
 -- The chain of the live sends stays one of those that aren't due and then those that are.
-use Rattle.std.proofs.Common.{◌≡◌, ℕ, ◌==◌, Bool, true, false, List, [], ◌∷◌, ◌++◌, Option, Some, refl, sym, if◌then◌else◌, ap, ap₂, subst, ◌∙◌, inl, inr}
+use Rattle.std.proofs.Common.{◌≡◌, ℕ, ◌==◌, Bool, true, false, List, [], ◌∷◌, ◌++◌, Option, Some, refl, sym}
+use Rattle.std.proofs.Common.{if◌then◌else◌, ap, ap₂, subst, ◌∙◌, inl, inr}
 use Rattle.std.proofs.lemmas.Bool.{cases_Bool}
 use Rattle.std.proofs.lemmas.List.{append_assoc}
 use Rattle.std.specs.Option.{option_or}
@@ -96,7 +97,8 @@ module _ {S : Type 0} where
         record {
           not_due = l.not_due;
           dues = r.between ++ item p (under t w) ∷ after;
-          parts = ap (λ (xs : List (Element S)). xs ++ item p (under t w) ∷ after) r.ahead ∙ append_assoc l.not_due r.between (item p (under t w) ∷ after);
+          parts = ap (λ (xs : List (Element S)). xs ++ item p (under t w) ∷ after) r.ahead
+              ∙ append_assoc l.not_due r.between (item p (under t w) ∷ after);
           none_due = l.none_due;
           all_due = lined_put true r.between after (item p (under t v)) p t w (same ∙ due) (subst (EachDueIs true) r.behind l.all_due);
           first = l.first ∙ ap first_place r.behind ∙ first_same r.between after p (under t v) (under t w);
@@ -107,7 +109,8 @@ module _ {S : Type 0} where
         record {
           not_due = before ++ item p (under t w) ∷ r.between;
           dues = l.dues;
-          parts = ap (λ (xs : List (Element S)). before ++ item p (under t w) ∷ xs) r.behind ∙ sym (append_assoc before (item p (under t w) ∷ r.between) l.dues);
+          parts = ap (λ (xs : List (Element S)). before ++ item p (under t w) ∷ xs) r.behind
+              ∙ sym (append_assoc before (item p (under t w) ∷ r.between) l.dues);
           none_due = lined_put false before r.between (item p (under t v)) p t w (same ∙ due) (subst (EachDueIs false) r.ahead l.none_due);
           all_due = l.all_due;
           first = l.first;
@@ -116,8 +119,10 @@ module _ {S : Type 0} where
   ]
 
   -- a send that wasn't due is, behind all others
-  pub moved_lined : (before after : List (Element S)) (p t : ℕ) (v w : LiveSend S) (d : Option ℕ) → v.notice.due ≡ false → w.notice.due ≡ true
-      → SendLayout (before ++ item p (under t v) ∷ after) d → SendLayout ((before ++ after) ++ item p (under t w) ∷ []) (option_or d (Some p))
+  pub moved_lined : (before after : List (Element S)) (p t : ℕ) (v w : LiveSend S) (d : Option ℕ) → v.notice.due ≡ false
+      → w.notice.due ≡ true
+      → SendLayout (before ++ item p (under t v) ∷ after) d
+      → SendLayout ((before ++ after) ++ item p (under t w) ∷ []) (option_or d (Some p))
   moved_lined before after p t v w d was is l =
       let r = not_due_side before after l.not_due l.dues (item p (under t v)) l.parts l.all_due was in
       let last : List (Element S) = item p (under t w) ∷ [] in

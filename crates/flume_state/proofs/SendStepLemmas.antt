@@ -1,5 +1,6 @@
 -- What each method of the live sends leaves of their chain, and of the map that it is seen as.
-use Rattle.std.proofs.Common.{◌≡◌, ◌==◌, ℕ, true, false, List, [], ◌∷◌, ◌++◌, Option, Some, None, refl, sym, if◌then◌else◌, ap, ap₂, subst, ◌∙◌, arith, append-nil, nat_eq}
+use Rattle.std.proofs.Common.{◌≡◌, ◌==◌, ℕ, true, false, List, [], ◌∷◌, ◌++◌, Option, Some, None, refl, sym}
+use Rattle.std.proofs.Common.{if◌then◌else◌, ap, ap₂, subst, ◌∙◌, arith, append-nil, nat_eq}
 use Rattle.std.specs.FinMap.{get, insert, remove}
 use Rattle.std.specs.Option.{option_or, option_eq}
 use Rattle.flume_state.proofs.Chains.{times, without_place, place_after, item, without_place-append, with_value_at, put_before_or_last}
@@ -9,7 +10,9 @@ use Rattle.flume_state.specs.layout.SendLayout.{Element, by_ticket, EachDueIs, S
 use Rattle.flume_state.specs.layout.WithTicket.{place_of, tickets}
 use Rattle.flume_state.proofs.SendMapLemmas.{changed_none}
 use Rattle.flume_state.proofs.TicketLemmas.{times_both, times_none}
-use Rattle.flume_state.proofs.ByTicketLemmas.{under, value_of, get_by_ticket, value_none, by_ticket_insert, by_ticket_changed, by_ticket_moved, by_ticket_removed, Occupied, stands_without, stands_written, stands_again}
+use Rattle.flume_state.proofs.ByTicketLemmas.{under, value_of, get_by_ticket, value_none, by_ticket_insert}
+use Rattle.flume_state.proofs.ByTicketLemmas.{by_ticket_changed, by_ticket_moved, by_ticket_removed, Occupied}
+use Rattle.flume_state.proofs.ByTicketLemmas.{stands_without, stands_written, stands_again}
 use Rattle.flume_state.specs.layout.EntryLayout.{boundary_without}
 use Rattle.flume_state.proofs.EntryPartLemmas.{Apart, off_first, no_first}
 use Rattle.flume_state.proofs.SendLineLemmas.{written_lined, moved_lined, lined_without, put_is}
@@ -33,7 +36,8 @@ module _ {S : Type 0} where
       ∙ ap (λ n. changed (by_ticket n) t f) (sym s.is)
 
   -- a send that is written is due if it was
-  pub written_kept : (items : List (Element S)) (d : Option ℕ) (t p : ℕ) (v w : LiveSend S) → w.notice.due ≡ v.notice.due → Occupied t p v items
+  pub written_kept : (items : List (Element S)) (d : Option ℕ) (t p : ℕ) (v w : LiveSend S) → w.notice.due ≡ v.notice.due
+      → Occupied t p v items
       → SendLayout items d → SendLayout (with_value_at p items w) d
   written_kept items d t p v w same s l =
       subst (λ (xs : List (Element S)). SendLayout xs d) (sym (stands_written t p v w items s))
@@ -43,7 +47,8 @@ module _ {S : Type 0} where
   moved_is : (items : List (Element S)) (t p : ℕ) (v w : LiveSend S) (s : Occupied t p v items)
       → without_place (with_value_at p items w) p ++ item p (under t w) ∷ [] ≡ (s.before ++ s.after) ++ item p (under t w) ∷ []
   moved_is items t p v w s =
-      ap (λ (xs : List (Element S)). xs ++ item p (under t w) ∷ []) (stands_without t p w (with_value_at p items w) (stands_again t p v w items s))
+      ap (λ (xs : List (Element S)). xs ++ item p (under t w) ∷ []) (stands_without t p w (with_value_at p items w)
+      (stands_again t p v w items s))
 
   -- it is a changed one
   pub moved_view : (items : List (Element S)) (t p : ℕ) (v : LiveSend S) (f : LiveSend S → LiveSend S) → Occupied t p v items
@@ -54,7 +59,8 @@ module _ {S : Type 0} where
       ∙ ap (λ n. changed (by_ticket n) t f) (sym s.is)
 
   -- and is the last that became due
-  pub moved_kept : (items : List (Element S)) (d : Option ℕ) (t p : ℕ) (v w : LiveSend S) → v.notice.due ≡ false → w.notice.due ≡ true → Occupied t p v items
+  pub moved_kept : (items : List (Element S)) (d : Option ℕ) (t p : ℕ) (v w : LiveSend S) → v.notice.due ≡ false → w.notice.due ≡ true
+      → Occupied t p v items
       → SendLayout items d → SendLayout (without_place (with_value_at p items w) p ++ item p (under t w) ∷ []) (option_or d (Some p))
   moved_kept items d t p v w was is s l =
       subst (λ (xs : List (Element S)). SendLayout xs (option_or d (Some p))) (sym (moved_is items t p v w s))
@@ -104,7 +110,8 @@ module _ {S : Type 0} where
   -- no send is due if there is no first one
   pub none_first : (items : List (Element S)) → SendLayout items None → NoDueSend (by_ticket items)
   none_first items l = λ t.
-      ap send_due_in (get_by_ticket items t ∙ ap (value_of t) (l.parts ∙ ap (λ (xs : List (Element S)). l.not_due ++ xs) (no_first l.dues l.first) ∙ append-nil l.not_due))
+      ap send_due_in (get_by_ticket items t
+      ∙ ap (value_of t) (l.parts ∙ ap (λ (xs : List (Element S)). l.not_due ++ xs) (no_first l.dues l.first) ∙ append-nil l.not_due))
       ∙ not_due_value t l.not_due l.none_due
 
 -- the next one, if the place is the one that it is compared with

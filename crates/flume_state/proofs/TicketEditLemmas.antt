@@ -1,7 +1,9 @@
 -- A chain with tickets if an element is taken out, moved or changed: its map goes with it.
 use Rattle.std.proofs.Common.{◌≡◌, ℕ, List, Option, Some, None, refl, sym, ap, subst, ◌∙◌}
 use Rattle.std.specs.FinMap.{remove}
-use Rattle.flume_state.proofs.Chains.{ChainItem, found, without_place, moved_back, changed_at, with_value_at, item, without_at, edited_missing, moved_back_missing, moved_back_some, with_new_value}
+use Rattle.flume_state.proofs.Chains.{ChainItem, found, without_place, moved_back, changed_at, with_value_at}
+use Rattle.flume_state.proofs.Chains.{item, without_at, edited_missing, moved_back_missing, moved_back_some}
+use Rattle.flume_state.proofs.Chains.{with_new_value}
 use Rattle.flume_state.proofs.EntryPartLemmas.{Apart, seat, edited_at}
 use Rattle.flume_state.specs.layout.WithTicket.{WithTicket, Agrees}
 use Rattle.flume_state.specs.layout.Places.{PlaceMap}
@@ -43,9 +45,11 @@ module _ {E : Type 0} where
       }
 
   -- the map stays if a value is written at a place
-  pub written_agrees : (v : E) (items : List (ChainItem (WithTicket E))) (m : PlaceMap) (k : ℕ) → Agrees items m → Agrees (with_value_at k items v) m
-  written_agrees v items m k a = elim (found items k) as (λ (o : Option (WithTicket E)). found items k ≡ o → Agrees (with_value_at k items v) m) [
-    | None ↦ λ none. subst (λ (l : List (ChainItem (WithTicket E))). Agrees l m) (sym (edited_missing (with_new_value v) items k none)) a
-    | Some e ↦ λ is. replaced items (without_place items k) _ m k e (with_new_value v e) (without_amid items k e a.apart is)
-        (written_amid (with_new_value v) items k e a.apart is) refl a
-  ] refl
+  pub written_agrees : (v : E) (items : List (ChainItem (WithTicket E))) (m : PlaceMap) (k : ℕ) → Agrees items m
+      → Agrees (with_value_at k items v) m
+  written_agrees v items m k a = elim (found items k) as (λ (o : Option (WithTicket E)). found items k ≡ o
+      → Agrees (with_value_at k items v) m) [
+        | None ↦ λ none. subst (λ (l : List (ChainItem (WithTicket E))). Agrees l m) (sym (edited_missing (with_new_value v) items k none)) a
+        | Some e ↦ λ is. replaced items (without_place items k) _ m k e (with_new_value v e) (without_amid items k e a.apart is)
+            (written_amid (with_new_value v) items k e a.apart is) refl a
+      ] refl

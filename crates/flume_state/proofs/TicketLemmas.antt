@@ -1,8 +1,13 @@
 -- A chain with tickets under single edits: which place each ticket has, and how many elements have it.
-use Rattle.std.proofs.Common.{◌≡◌, ◌≢◌, ℕ, ◌+◌, ◌≤◌, ◌==◌, Bool, true, false, cond, if◌then◌else◌, List, [], ◌∷◌, ◌++◌, map, Option, Some, None, option_map, refl, sym, ap, subst, ◌∙◌, arith, ⊎_elim, inl, inr, append-nil, nat_cmp}
-use Rattle.std.proofs.lemmas.Bool.{cases_eq, cases_Bool, eq-eqb, ne_eqb}
+use Rattle.std.proofs.Common.{◌≡◌, ◌≢◌, ℕ, ◌+◌, ◌≤◌, ◌==◌, nat_eq, Bool, true, false, cond, if◌then◌else◌}
+use Rattle.std.proofs.Common.{List, [], ◌∷◌, ◌++◌, map, Option, Some, None, option_map, refl, sym, ap, subst}
+use Rattle.std.proofs.Common.{◌∙◌, arith, ⊎_elim, inl, inr, append-nil, nat_cmp}
+use Rattle.std.proofs.lemmas.Bool.{cases_eq, cases_Bool, eq-eqb, eqb-true, ne_eqb}
+use Rattle.std.specs.Option.{option_eq}
 use Rattle.std.specs.FinMap.{empty, get, insert, remove, get-empty}
-use Rattle.flume_state.proofs.Chains.{ChainItem, once, times, places, found, without_place, put_before, once_same, once_none, once_more, item, without_at, put_before_or_last, none_placed}
+use Rattle.flume_state.proofs.Chains.{ChainItem, once, times, places, found, without_place, put_before}
+use Rattle.flume_state.proofs.Chains.{once_same, once_none, once_more, item, without_at, put_before_or_last}
+use Rattle.flume_state.proofs.Chains.{none_placed}
 use Rattle.flume_state.proofs.EntryPartLemmas.{Apart, seat}
 use Rattle.flume_state.proofs.PlacedLemmas.{found_here, without_here}
 use Rattle.flume_state.specs.layout.WithTicket.{WithTicket, tickets, place_of, Agrees}
@@ -66,7 +71,8 @@ module _ {E : Type 0} where
     pub whole : items ≡ before ++ x ∷ after
     pub others : rest ≡ before ++ after
 
-module _ {E : Type 0} (items rest : List (ChainItem (WithTicket E))) (x : ChainItem (WithTicket E)) (m : PlaceMap) (at : Amid items rest x) where
+module _ {E : Type 0} (items rest : List (ChainItem (WithTicket E))) (x : ChainItem (WithTicket E)) (m : PlaceMap)
+    (at : Amid items rest x) where
   counts : (t : ℕ) → times t (tickets items) ≡ once x.element.label t + times t (tickets rest)
   counts t = rw at.whole (rw at.others (times_amid (λ y. y.element.label) t at.before at.after x))
 
@@ -128,7 +134,8 @@ module _ {E : Type 0} (items rest : List (ChainItem (WithTicket E))) (x : ChainI
             (cases_eq u t);
         single = λ u.
             let sum = counts u in
-            let most = once_more (λ j. times j (tickets rest)) x.element.label u (ap (λ v. times v (tickets rest)) has ∙ none) (a.single u) in
+            let most = once_more (λ j. times j (tickets rest)) x.element.label u (ap (λ v. times v (tickets rest)) has
+            ∙ none) (a.single u) in
             omega arith;
         apart = put_apart fresh a.apart;
       }
@@ -156,14 +163,16 @@ module _ {E : Type 0} where
   ]
 
   -- one more if it is put
-  pub put_amid : (items : List (ChainItem (WithTicket E))) (next : Option ℕ) (x : ChainItem (WithTicket E)) → Amid (put_before_or_last items next x) items x
+  pub put_amid : (items : List (ChainItem (WithTicket E))) (next : Option ℕ) (x : ChainItem (WithTicket E))
+      → Amid (put_before_or_last items next x) items x
   put_amid items None x = record { before = items; after = []; whole = refl; others = sym (append-nil items) }
   put_amid items (Some k) x = put_before_amid items k x
 
   -- one that is put at a new place is found there, and without it the others are left
   pub put_undone : (items : List (ChainItem (WithTicket E))) (next : Option ℕ) (x : ChainItem (WithTicket E)) → Apart items
       → found items x.place ≡ None
-      → (found (put_before_or_last items next x) x.place ≡ Some x.element) × (without_place (put_before_or_last items next x) x.place ≡ items)
+      → (found (put_before_or_last items next x) x.place ≡ Some x.element)
+      × (without_place (put_before_or_last items next x) x.place ≡ items)
   put_undone items next x apart fresh =
       undone (put_before_or_last items next x) items x empty (put_amid items next x) (none_placed items x.place fresh) apart
 
@@ -192,13 +201,32 @@ module _ {E : Type 0} where
   pub left_agrees : (items : List (ChainItem (WithTicket E))) (m : PlaceMap) (k t : ℕ) → Some t ≡ option_map (λ e. e.label) (found items k)
       → Agrees items m → Agrees (without_place items k) (remove m t)
   left_agrees items m k t is a =
-      elim (found items k) as (λ (o : Option (WithTicket E)). found items k ≡ o → Some t ≡ option_map (λ e. e.label) o → Agrees (without_place items k) (remove m t)) [
+      elim (found items k) as (λ (o : Option (WithTicket E)). found items k ≡ o → Some t ≡ option_map (λ e. e.label) o
+      → Agrees (without_place items k) (remove m t)) [
         | None ↦ λ at none. absurd (let no : ⊥ = cc in no)
         | Some e ↦ λ at some. (
             let own_ticket : e.label ≡ t = cc in
             ticketed_out items (without_place items k) (item k e) m (without_amid items k e a.apart at) t own_ticket a
             )
       ] refl is
+
+  -- the ticket of an element is where the element is
+  pub ticket_place : (xs : List (ChainItem (WithTicket E))) (p : ℕ) (e : WithTicket E) → Apart xs → ((u : ℕ) → times u (tickets xs) ≤ 1)
+      → found xs p ≡ Some e → place_of e.label xs ≡ Some p
+  ticket_place xs p e apart single is =
+      let at = without_amid xs p e apart is in
+      own xs (without_place xs p) (item p e) empty at e.label refl (others_none xs (without_place xs p) (item p e) empty at e.label refl
+      (single e.label))
+
+  -- and so is a ticket that is seen at a place
+  pub label_place : (xs : List (ChainItem (WithTicket E))) (p t : ℕ) → Apart xs → ((u : ℕ) → times u (tickets xs) ≤ 1)
+      → option_eq nat_eq (option_map (λ e. e.label) (found xs p)) (Some t) ≡ true → place_of t xs ≡ Some p
+  label_place xs p t apart single seen =
+      elim (found xs p) as (λ (o : Option (WithTicket E)). found xs p ≡ o → option_eq nat_eq (option_map (λ e. e.label) o) (Some t) ≡ true
+      → place_of t xs ≡ Some p) [
+        | None ↦ λ at no. absurd (let none : ⊥ = cc in none)
+        | Some e ↦ λ at same. subst (λ u. place_of u xs ≡ Some p) (eqb-true e.label t same) (ticket_place xs p e apart single at)
+      ] refl seen
 
 -- the empty map is that of no elements
 pub empty_agrees : (E : Type 0) (items : List (ChainItem (WithTicket E))) (m : PlaceMap) → items ≡ [] → m ≡ empty → Agrees items m

@@ -1,6 +1,6 @@
 -- For every contract: which ticket is named as due, and the signal of a ticket.
 use Rattle.std.specs.Prelude.{◌≡◌, ℕ, true, Option, Some, None}
-use Rattle.std.specs.Option.{option_map}
+use Rattle.std.specs.Option.{option_map, option_or}
 use Rattle.std.specs.FinMap.{get}
 use Rattle.flume_model.specs.Entries.{entry_of}
 use Rattle.flume_state.specs.Notices.{no_longer_due}
@@ -8,17 +8,11 @@ use Rattle.flume_state.specs.Sends.{noticed_send, is_due_send}
 use Rattle.flume_state.specs.Receivers.{NamesReceiver}
 use Rattle.flume_state.specs.State.{State}
 
-module _ {S : Type 0} where
-  -- the signal of a send, or else of a parked receiver
-  abbrev pub signal_or : Option S → Option S → Option S
-  signal_or None other = other
-  signal_or (Some signal) other = Some signal
-
 module _ {T S : Type 0} where
   -- the signal that a live ticket left last
   abbrev pub signal_of : State T S → ℕ → Option S
   signal_of s t =
-      signal_or (option_map (λ send. send.notice.signal) (get s.sends t))
+      option_or (option_map (λ send. send.notice.signal) (get s.sends t))
       (option_map (λ e. e.notice.signal) (entry_of t s.entries))
 
   -- a ticket that was due is named: one of a send, or of a parked receiver

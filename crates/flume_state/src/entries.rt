@@ -40,13 +40,12 @@ struct ParkedReceiver<T, S> {
 /// The parked receivers, in order. Only `park` allocates.
 #[derive(Drop)]
 pub struct Entries<T, S, A: Allocator> {
-    // First those that neither wait nor are due, then those that are due, then those that wait: so
-    // a wake round meets only those that it wakes.
+    // First those that neither wait nor are due, then the due ones, then those that wait.
     chain: TicketChain<ParkedReceiver<T, S>, A>,
     // The place of the first that is due or waits.
     due: Option<u32>,
     waits: Option<u32>,
-    // How many wait: a send reads this instead of the chain.
+    // How many wait.
     waiting: usize,
 }
 
@@ -121,7 +120,6 @@ impl<T, S, A: Allocator> Model for Entries<T, S, A> {
 
 impl<T: Drop, S: Drop, A: Allocator + Copy> Entries<T, S, A> {
     /// Nobody is parked.
-    ///
     /// ```
     /// let mut entries: Entries<u64, (), Global> = Entries::new(alloc);
     /// let _ = entries.park(1, Kind::Plain, ()); // Ok(())
@@ -214,8 +212,8 @@ impl<T: Drop, S: Drop, A: Allocator + Copy> Entries<T, S, A> {
         message_in(mark)
     }
 
-    /// The receiver with this ticket waits on, behind all others if it was woken, and isn't due; a
-    /// signal given here replaces its own. A filled one stays as it is.
+    /// This receiver waits on, behind all others if it was woken, and isn't due; a signal given here
+    /// replaces its own. A filled one stays as it is.
     pub fn wait_on(&mut self, ticket: u64, signal: Option<S>)
         ensures waits { held_by (entry_of ticket self.old) ≡ None → self.new
             ≡ again ticket (noticed_receiver (waits_on signal) ticket self.old) }

@@ -17,7 +17,7 @@ use std::marker::Model;
 /// The messages and the live sends. Only `push_queued`, `block` and `drain_queued` allocate.
 #[derive(Drop)]
 pub struct Line<T, S, A: Allocator> {
-    // A blocked message and its send have each other's place: so neither is searched for.
+    // A blocked message and its send have each other's place.
     messages: MessageChain<T, A>,
     sends: Sends<S, A>,
 }
@@ -45,7 +45,6 @@ impl<T, S, A: Allocator> Model for Line<T, S, A> {
 // Some methods only forward, so that neither part changes without the other.
 impl<T: Drop, S: Drop, A: Allocator + Copy> Line<T, S, A> {
     /// No messages and no sends.
-    ///
     /// ```
     /// let mut line: Line<u64, (), Global> = Line::new(alloc);
     /// let _ = line.push_queued(7);       // Ok(())

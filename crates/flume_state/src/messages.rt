@@ -18,7 +18,6 @@ use std::marker::Model;
 /// Only `push_queued`, `push_blocked` and `drain_queued` allocate.
 #[derive(Drop)]
 pub struct MessageChain<T, A: Allocator> {
-    // A blocked one that joins the queue stays in its node, so nothing is allocated.
     chain: Chain<OptionalPlace, T, A>,
     blocked: Option<u32>,
     blocked_len: usize,
@@ -61,7 +60,6 @@ fn send_place_at<T: Drop, A: Allocator>(
 
 impl<T: Drop, A: Allocator + Copy> MessageChain<T, A> {
     /// No messages.
-    ///
     /// ```
     /// let mut messages = MessageChain::new(alloc);
     /// let _ = messages.push_queued(7);     // Ok(())

@@ -22,7 +22,6 @@ impl Model for OptionalPlace {
 
 impl OptionalPlace {
     /// No place.
-    ///
     /// ```
     /// OptionalPlace::none().get();          // None
     /// if let Some(place) = OptionalPlace::of(7) {

@@ -1,5 +1,5 @@
 //! The place of each ticket, by which its element is found.
-ghost use Rattle.std.specs.Prelude.{◌≡◌, None, OnOk, OnErr};
+ghost use Rattle.std.specs.Prelude.{◌≡◌, None, OnOk, OnErr, OnSome};
 ghost use Rattle.std.specs.FinMap.{empty, get, insert, remove};
 
 mod ticket_hash;
@@ -33,7 +33,6 @@ impl<A: Allocator> Model for Places<A> {
 
 impl<A: Allocator + Copy> Places<A> {
     /// No ticket has a place.
-    ///
     /// ```
     /// let mut places = Places::new(alloc);
     /// let _ = places.insert(7, 2);       // Ok(())
@@ -49,6 +48,17 @@ impl<A: Allocator + Copy> Places<A> {
         Places {
             lone: None,
             table: TicketTable::new(alloc),
+        }
+    }
+
+    /// The place of this ticket, if it needs no table.
+    #[inline(always)]
+    pub(crate) fn lone(&self, ticket: u64) -> Option<u32>
+        ensures place { OnSome result (result ≡ get self.now ticket) }
+    {
+        match &self.lone {
+            Some(lone) if lone.0 == ticket => Some(lone.1),
+            _ => None,
         }
     }
 

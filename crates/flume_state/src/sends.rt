@@ -36,8 +36,7 @@ pub struct PlacedSend<S> {
 /// The live send of each live ticket, each at a place that it keeps. Only `block` allocates.
 #[derive(Drop)]
 pub struct Sends<S, A: Allocator> {
-    // First those that aren't due, then those that are, in the order in which they became due: so
-    // `next_due` reads one place.
+    // First those that aren't due, then those that are, in the order in which they became due.
     chain: TicketChain<PlacedSend<S>, A>,
     due: Option<u32>,
 }
@@ -55,7 +54,6 @@ impl<S, A: Allocator> Model for Sends<S, A> {
 
 impl<S: Drop, A: Allocator + Copy> Sends<S, A> {
     /// No ticket is live.
-    ///
     /// ```
     /// let mut sends = Sends::new(alloc);
     /// let _ = sends.block(7, ());        // Ok(0): its place
@@ -74,8 +72,8 @@ impl<S: Drop, A: Allocator + Copy> Sends<S, A> {
         }
     }
 
-    /// Makes `ticket` live, blocked and not due, and returns its place. The place of its message
-    /// has to be set next. If memory runs out, or the ticket is live already, nothing changes.
+    /// Makes `ticket` live, blocked and not due, and returns its place. If memory runs out, or the
+    /// ticket is live already, nothing changes.
     #[inline(always)]
     pub(crate) fn block(&mut self, ticket: u64, signal: S) -> Result<u32, AllocError>
         ensures live { OnOk result (live_sends self.new

@@ -1,5 +1,6 @@
 //! Elements in order, each found by its ticket at the same cost.
-ghost use Rattle.std.specs.Prelude.{◌≡◌, ◌≤◌, ◌++◌, ◌∷◌, ◌↔◌, [], ℕ, true, false, None, Some, length};
+ghost use Rattle.std.specs.Prelude.{◌≡◌, ◌≤◌, ◌++◌, ◌∷◌, ◌↔◌, [], ℕ, true, false};
+ghost use Rattle.std.specs.Prelude.{None, Some, length};
 ghost use Rattle.std.specs.Prelude.{IsSome, IfOk, IfErr, OnOk, OnErr, option_copied};
 ghost use Rattle.std.specs.Option.{option_map, option_copied_mut};
 ghost use Rattle.std.specs.Borrow.{sem};
@@ -12,6 +13,7 @@ use crate::places::Places;
 use flume_chain::chain::Chain;
 use flume_chain::labelled::LabelledValue;
 use std::alloc::Allocator;
+use std::cell::Cell;
 use std::marker::Model;
 
 /// Elements in order, each with a place and a ticket. Only `insert` allocates.
@@ -19,6 +21,8 @@ use std::marker::Model;
 pub struct TicketChain<E, A: Allocator> {
     chain: Chain<u64, E, A>,
     places: Places<A>,
+    // Where a ticket was found last: who is due is looked up next, and most steps look up twice.
+    recent: Cell<u32>,
 }
 
 impl<E, A: Allocator> Model for TicketChain<E, A> {
@@ -35,7 +39,6 @@ impl<E, A: Allocator> Model for TicketChain<E, A> {
 
 impl<E: Drop, A: Allocator + Copy> TicketChain<E, A> {
     /// No elements.
-    ///
     /// ```
     /// let mut chain = TicketChain::new(alloc);
     /// let _ = chain.insert(None, 7, 'a');    // Ok(0)
@@ -50,6 +53,7 @@ impl<E: Drop, A: Allocator + Copy> TicketChain<E, A> {
         TicketChain {
             chain: Chain::new(alloc),
             places: Places::new(alloc),
+            recent: Cell::new(0),
         }
     }
 
@@ -66,7 +70,25 @@ impl<E: Drop, A: Allocator + Copy> TicketChain<E, A> {
     pub(crate) fn find(&self, ticket: u64) -> Option<u32>
         ensures place { result ≡ place_of ticket self.now }
     {
-        self.places.get(ticket)
+        match self.places.lone(ticket) {
+            Some(place) => Some(place),
+            None if self.chain.len() == 0 => None,
+            None => self.find_among_many(ticket),
+        }
+    }
+
+    // Sees whether it is where one was found last, before it asks the table.
+    #[inline(never)]
+    fn find_among_many(&self, ticket: u64) -> Option<u32>
+        ensures place { result ≡ place_of ticket self.now }
+    {
+        let recent = self.recent.get();
+        if self.chain.label(recent).copied() == Some(ticket) {
+            return Some(recent);
+        }
+        let place = self.places.get(ticket)?;
+        self.recent.set(place);
+        Some(place)
     }
 
     #[inline(always)]
@@ -81,6 +103,7 @@ impl<E: Drop, A: Allocator + Copy> TicketChain<E, A> {
     pub(crate) fn ticket(&self, place: u32) -> Option<u64>
         ensures ticket { result ≡ option_map (λ e. e.label) (found self.now place) }
     {
+        self.recent.set(place);
         self.chain.label(place).copied()
     }
 

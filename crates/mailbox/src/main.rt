@@ -1,7 +1,5 @@
-//! A mailbox: three workers send into one channel, which is widened while they send. It prints how
-//! many messages came, and their sum.
-//!
-//! Status 1: a worker's messages came out of order. 3: no memory or thread. 4: it couldn't print.
+//! Three workers send into one channel, which is widened. Prints how many messages came, and their
+//! sum. Status 1: a worker's came out of order. 3: no memory or thread. 4: it couldn't print.
 #![tactic(auto)]
 
 mod in_order;

@@ -1,5 +1,6 @@
 -- The answers that came so far, and the places that they fill.
-use Rattle.std.proofs.Common.{◌≡◌, ◌≢◌, ℕ, ◌<◌, ◌≤◌, Bool, true, false, not, eqb, cond, suc, zero, List, [], ◌∷◌, ◌++◌, length, map, Option, Some, None}
+use Rattle.std.proofs.Common.{◌≡◌, ◌≢◌, ℕ, ◌<◌, ◌≤◌, Bool, true, false, not, eqb, cond, suc, zero, List, []}
+use Rattle.std.proofs.Common.{◌∷◌, ◌++◌, length, map, Option, Some, None}
 use Rattle.std.proofs.Common.{refl, sym, ap, ◌∙◌, subst, arith, eqb-true, get_or, set}
 use Rattle.std.specs.Prelude.{All, is_some, Result, Ok, Err, IfErr}
 use Rattle.std.specs.Result.{IsErrAnd}
@@ -118,7 +119,8 @@ module _ {I R : Type 0} (steps : I → Option R → I → Type 0) where
 
 module _ {I R J : Type 0} (steps : I → Option R → I → Type 0) (at : R → ℕ × J) where
   -- the parts of a list of answers
-  seam : (all before later : List R) (last : R) → all ≡ (before ++ last ∷ []) ++ later → map at all ≡ map at before ++ at last ∷ map at later
+  seam : (all before later : List R) (last : R) → all ≡ (before ++ last ∷ []) ++ later
+      → map at all ≡ map at before ++ at last ∷ map at later
   seam all before later last is =
       ap (map at) (is ∙ append_assoc before (last ∷ []) later) ∙ map-append at before (last ∷ later)
 
@@ -129,7 +131,8 @@ module _ {I R J : Type 0} (steps : I → Option R → I → Type 0) (at : R → 
   only_no_memory jobs answers _ all (IsUnknown before last rest yields rights unknown) gives complete =
       let first = beginning steps all (before ++ last ∷ []) answers rest gives yields in
       let parts = seam all before first.0 last first.1 in
-      absurd (unknown (at_seam (IsTo jobs) (map at before) (at last) (map at first.0) (subst (λ l. All (IsTo jobs) l) parts complete.right.known)))
+      absurd (unknown (at_seam (IsTo jobs) (map at before) (at last) (map at first.0)
+      (subst (λ l. All (IsTo jobs) l) parts complete.right.known)))
   only_no_memory jobs answers _ all (IsDoubled before last rest yields rights is some) gives complete =
       let first = beginning steps all (before ++ last ∷ []) answers rest gives yields in
       let n = (at last).0 in
@@ -189,16 +192,19 @@ module _ {I R J V : Type 0} (steps : I → Option R → I → Type 0) (at : R �
   }
 
   -- which error an answer brings that isn't put into its place
-  pub refused : (jobs : List J) (places : List (Option V)) (answers s t : I) (came : List R) (r : R) (error : WorkError) → Yields steps answers came s
+  pub refused : (jobs : List J) (places : List (Option V)) (answers s t : I) (came : List R) (r : R) (error : WorkError)
+      → Yields steps answers came s
       → steps s (Some r) t → Filled jobs places came → IsRefused jobs places (at r) error → Brings steps at jobs answers error
   refused jobs places answers s t came r _ yields step filled (NoJob unknown) =
       IsUnknown came r t (yields_more steps answers s t came r yields step) (rights jobs places came filled) unknown
   refused jobs places answers s t came r _ yields step filled (NotEmpty is some) =
-      IsDoubled came r t (yields_more steps answers s t came r yields step) (rights jobs places came filled) is (filled.count (at r).0 ∙ some)
+      IsDoubled came r t (yields_more steps answers s t came r yields step) (rights jobs places came filled) is (filled.count (at r).0
+      ∙ some)
 
   -- which error a place brings that is empty at the end
   pub lacking : (jobs : List J) (places : List (Option V)) (answers : I) (came : List R) (error : WorkError) → Drains steps answers came
       → Filled jobs places came → Lacks jobs places error → Brings steps at jobs answers error
   lacking jobs places answers came _ drains filled NoRoom = OutOfMemory
   lacking jobs places answers came _ drains filled (FirstEmpty number within none lower) =
-      IsMissing came number drains (rights jobs places came filled) within (filled.count number ∙ none) (λ k less. filled.count k ∙ lower k less)
+      IsMissing came number drains (rights jobs places came filled) within (filled.count number ∙ none) (λ k less. filled.count k
+      ∙ lower k less)

@@ -27,7 +27,6 @@ impl Work for Square {
     }
 }
 
-/// Whether a number divides 8051, which is 83 times 97.
 struct Divides;
 
 impl Work for Divides {

@@ -69,7 +69,6 @@ impl<'e, 'h, R: Waits> Caller<'e, 'h, R> {
         recorder
     }
 
-    // Each run has another schedule.
     fn pause(&mut self) {
         match self.random.below(8) {
             0 => thread::yield_now(),

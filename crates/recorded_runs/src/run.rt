@@ -22,7 +22,6 @@ const REFUSED: u64 = 12;
 #[derive(Drop)]
 pub struct Run {
     pub capacity: Option<usize>,
-    /// In the order of time.
     pub events: Vec<Event<u64>>,
 }
 
@@ -100,7 +99,6 @@ fn capacity_of(number: u64) -> Option<usize> {
     }
 }
 
-// Of three threads one has a sender, one a receiver, and one both.
 fn setup<'h, R: Runtime>(
     own: &mut Recorder<u64>,
     (tx, rx): (&TestSender<'h, R>, &TestReceiver<'h, R>),
@@ -120,7 +118,7 @@ fn setup<'h, R: Runtime>(
         sender,
         receiver,
         random: Random::from_seed(number.wrapping_mul(1_000).wrapping_add(thread)),
-        calls: arguments.calls.checked_div(arguments.threads).unwrap_or(0),
+        calls_to_make: arguments.calls.checked_div(arguments.threads).unwrap_or(0),
         message: thread.wrapping_add(1).wrapping_mul(100_000),
     })
 }

@@ -15,8 +15,7 @@ pub struct CallerSetup<'h, R: Waits> {
     pub sender: Option<TestSender<'h, R>>,
     pub receiver: Option<TestReceiver<'h, R>>,
     pub random: Random,
-    pub calls: u64,
-    /// The number before its first message.
+    pub calls_to_make: u64,
     pub message: u64,
 }
 
@@ -28,11 +27,11 @@ impl<R: Waits> CallerSetup<'_, R> {
             sender,
             receiver,
             random,
-            calls,
+            calls_to_make,
             message,
         } = self;
         let caller = Caller::new(alloc, (recorder, random, message), &sender, &receiver);
-        let mut recorder = caller.run(task, calls);
+        let mut recorder = caller.run(task, calls_to_make);
         if let Some(sender) = sender {
             recorder.drop_sender(sender);
         }

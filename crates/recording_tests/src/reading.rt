@@ -77,7 +77,6 @@ fn event_is_written_as(
     }
 }
 
-// Each line behind the first is read as an event, and written back.
 fn is_read_and_written(rt: &impl Abort, alloc: Global, text: &str) {
     let Recording::Right { events, names, .. } = recording_of(rt, alloc, text) else {
         rt.abort();
@@ -201,7 +200,6 @@ fn wrong_lines_are_refused_with_their_reason(rt: HostRuntime) {
     let before = "unbounded\na: recv\na -> got 1\n";
     each_is_wrong(host, (before, ""), NO_EVENTS, (4, Fault::NoEvent));
     each_is_wrong(host, (before, "\n"), NO_EVENTS, (4, Fault::NoEvent));
-    // The last line may be empty, and no other.
     is_read_and_written(&rt, rt.alloc(), before);
     each_is_wrong(host, (before, "\n"), "", (4, Fault::NoEvent));
     each_is_wrong(

@@ -19,7 +19,6 @@ pub struct Task {
 /// What a turn did.
 #[derive(Drop)]
 pub enum Turn {
-    /// There is no task.
     Idle,
     /// It did the last step of the task with this number.
     Done(u64),

@@ -18,7 +18,6 @@ pub(crate) const NONE: Refused = Refused {
 #[derive(Clone, Copy, Drop)]
 pub struct ScriptText<'a> {
     pub title: &'a str,
-    /// How the subject is opened.
     pub opening: &'a str,
     pub lines: &'a str,
     /// The title's line in the file.

@@ -23,7 +23,7 @@ pub(crate) type SendListPoll<T, A> = (VecDeque<T, A>, Option<Result<(), SendErro
 
 impl<T: Drop, R: Waits, A: Allocator + Copy> Shared<T, R, A> {
     #[inline(never)]
-    pub(crate) fn poll_many(
+    pub(crate) fn poll_receives(
         &self,
         call: &mut PolledReceive,
         task: &Task,
@@ -51,7 +51,6 @@ impl<T: Drop, R: Waits, A: Allocator + Copy> Shared<T, R, A> {
         }
     }
 
-    // The first message that finds no room is the send's then, and is polled.
     #[inline(never)]
     pub(crate) fn poll_sends(
         &self,

@@ -19,9 +19,8 @@ use futures::task::{Context, Poll};
 use std::alloc::{Allocator, Global};
 use std::fmt;
 
-/// The next message, as a future, with the errors of `recv`. Polled after `NoMemory` it tries
-/// again; polled after it was ready with a message, it asks for one message more. If it is dropped
-/// while it waits, no message is lost: one that it was woken for is left to another receiver.
+/// The next message, as a future, with the errors of `recv`. Polled after it was ready, it asks for
+/// one more, or again after `NoMemory`. Dropped as it waits, it passes its wake on to a receiver.
 pub struct RecvFut<'a, T, R: Waits, A: Allocator + Copy = Global> {
     pub(crate) receiver: OwnedOrRef<'a, Receiver<T, R, A>>,
     call: PolledReceive,
@@ -63,7 +62,7 @@ impl<'a, T: Drop, R: Waits, A: Allocator + Copy> RecvFut<'a, T, R, A> {
         }
     }
 
-    pub(crate) fn poll_many(
+    pub(crate) fn poll_receives(
         &mut self,
         cx: &mut Context<'_>,
         into: Vec<T, A>,
@@ -78,7 +77,7 @@ impl<'a, T: Drop, R: Waits, A: Allocator + Copy> RecvFut<'a, T, R, A> {
         ensures kept { Keeps cx.old cx.new }
     {
         let shared = self.receiver.get().shared();
-        shared.poll_many(&mut self.call, &self.task, cx, into, more)
+        shared.poll_receives(&mut self.call, &self.task, cx, into, more)
     }
 
     /// Whether all senders, or all receivers, have been dropped.
@@ -160,7 +159,6 @@ impl<T: Drop, R: Waits, A: Allocator + Copy> fmt::Debug for RecvFut<'_, T, R, A>
 }
 
 impl<T: Drop, R: Waits, A: Allocator + Copy> Drop for RecvFut<'_, T, R, A> {
-    // The waker that it left is dropped, and that wakes its task once more.
     #[inline(always)]
     fn drop(self) {
         let Self {

@@ -24,9 +24,8 @@ use std::collections::VecDeque;
 use std::fmt;
 use std::mem::replace;
 
-/// A send, as a future, with the errors of `send`. Nothing is sent until it is polled. After it was
-/// ready it answers `Ok`, and does nothing. If it is dropped while it waits, it takes its message
-/// back and drops it.
+/// A send, as a future, with the errors of `send`. Nothing is sent until it is polled, or after it
+/// was ready: then it answers `Ok`. Dropped while it waits, it takes its message back and drops it.
 pub struct SendFut<'a, T, R: Waits, A: Allocator + Copy = Global> {
     pub(crate) sender: OwnedOrRef<'a, Sender<T, R, A>>,
     send: PolledSend<T>,

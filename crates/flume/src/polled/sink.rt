@@ -64,9 +64,9 @@ impl<'a, T: Drop, R: Waits, A: Allocator + Copy> SendSink<'a, T, R, A> {
         }
     }
 
-    /// Polls for these messages to be sent, in order, behind one that the sink keeps. `Ok`: all are
-    /// sent, and the list has lost its room. Pending: the sink keeps the next message. An error has
-    /// the first that wasn't sent, and the sink keeps none. Those behind it stay in the list.
+    /// Sends these messages in order, behind one that the sink keeps. `Ok`: all are sent, and the
+    /// list has lost its room. Pending: the sink keeps the next message. An error has the first that
+    /// wasn't sent, and the sink keeps none. Those behind it stay in the list.
     /// ```
     /// let (tx, rx) = flume::on(rt).bounded(1)?;
     /// let mut sink = tx.sink();

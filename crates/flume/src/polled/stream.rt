@@ -132,7 +132,7 @@ impl<'a, T: Drop, R: Waits, A: Allocator + Copy> RecvStream<'a, T, R, A> {
             return Poll::Ready(Err(RecvError::NoMemory));
         }
         let list = replace(into, Vec::new(self.next.receiver.get().shared().alloc));
-        let (list, answer) = self.next.poll_many(cx, list, most - 1);
+        let (list, answer) = self.next.poll_receives(cx, list, most - 1);
         *into = list;
         let Some(answer) = answer else {
             return Poll::Pending;

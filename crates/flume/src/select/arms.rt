@@ -33,8 +33,7 @@ pub trait ArmTurns<A: Allocator + Copy> {
     /// How often a call on its channel checks for its wake before it sleeps.
     fn checks(&self) -> u32;
 
-    /// Starts the arm, or polls it if it was started before. If it parks it leaves a copy of the
-    /// parker, with its number. Without a parker it doesn't park.
+    /// Starts the arm, or polls it. It parks only with a parker, and leaves a copy with its number.
     fn turn(&mut self, number: usize, parker: Option<&Arc<Parker, A>>) -> ArmNext
         ensures does { turns (is_some parker.entry) self.old result self.new }
         ensures completed { result ≡ ArmNext.Completed → has_completed self.new }

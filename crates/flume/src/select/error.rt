@@ -3,7 +3,7 @@ ghost use Rattle.std.specs.Prelude.{◌≡◌, Some};
 ghost use Rattle.std.specs.Fmt.{styled_text};
 ghost use Rattle.std.specs.IoError.{error_kind};
 ghost use Rattle.flume.specs.declared.select.error.EachError.{EachError};
-ghost use Rattle.flume.specs.EachErrors.{each_text, each_kind};
+ghost use Rattle.flume.specs.ArmLists.{each_text, each_kind};
 
 use std::alloc::AllocError;
 use std::error::Error;
@@ -15,7 +15,6 @@ use std::{fmt, io};
 pub enum EachError {
     /// The list is empty, and no arm was added before.
     NoArm,
-    /// An allocation failed.
     NoMemory,
 }
 

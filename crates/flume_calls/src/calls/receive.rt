@@ -85,9 +85,9 @@ impl RecvCall {
         ParkReceive { kind, signal }.apply(chan)
     }
 
-    /// A later turn: `Chan::poll`, or `Chan::withdraw` if it is the `last`, as at its deadline.
-    /// `Done(Err(Disconnected))`: no message for it in a closed channel, or the ticket is spent.
-    /// `Done(Err(Timeout))`: it withdrew, with no message, in an open one. Doesn't allocate.
+    /// A later turn: `Chan::poll`, in which a given signal replaces the one that it left, or
+    /// `Chan::withdraw` if it is the `last`, as at its deadline. `Disconnected`: no message in a
+    /// closed channel, or a spent ticket. `Timeout`: it withdrew in an open one. Doesn't allocate.
     /// ```
     /// let mut chan: Chan<u64, u32> = Chan::new(alloc, None);
     /// if let RecvNext::Park(call) = RecvCall::park(Kind::Block, 10, &mut chan) {
@@ -174,7 +174,6 @@ impl<T: Drop, S: Drop, A: Allocator + Copy> Turn<T, S, A> for ParkReceive<S> {
 pub struct AgainReceive<S> {
     pub call: RecvCall,
     pub last: bool,
-    /// Replaces the one that it left.
     pub signal: Option<S>,
 }
 

@@ -15,17 +15,15 @@ use flume_core::error::RecvTimeoutError::{Disconnected, NoMemory};
 use flume_model::step::Reply;
 use std::alloc::Allocator;
 
-/// What a receive of many messages leads to.
+/// What a receive of many messages leads to: `into`, with what it took behind what was there, and
+/// `next`, as of a receive of one message, but `Done(Ok)` says how many came.
 #[derive(Drop)]
 pub struct ManyNext<T, A: Allocator> {
-    /// What it was given, and behind it what it took.
     pub into: Vec<T, A>,
-    /// As of a receive of one message; `Done(Ok)` says how many came.
     pub next: RecvNext<usize>,
 }
 
-/// A first receive of at most `most` messages, which doesn't park. `Done(Err(NoMemory))`: `into`
-/// couldn't grow, and nothing was taken.
+/// Receives at most `most` messages. Doesn't park. `NoMemory`: `into` can't grow; none is taken.
 #[derive(Drop)]
 pub struct FirstReceiveMany<T, A: Allocator> {
     pub into: Vec<T, A>,
@@ -65,8 +63,7 @@ impl<T: Drop, S: Drop, A: Allocator + Copy> Turn<T, S, A> for FirstReceiveMany<T
     }
 }
 
-/// Takes what is there, at most `most`, and answers how many: if `into` can't grow, as many as it
-/// has room for.
+/// Takes and counts what is there, at most `most`; if `into` can't grow, what it has room for.
 #[derive(Drop)]
 pub struct MoreReceives<T, A: Allocator> {
     pub into: Vec<T, A>,
@@ -92,12 +89,11 @@ impl<T: Drop, S: Drop, A: Allocator + Copy> Turn<T, S, A> for MoreReceives<T, A>
     }
 }
 
-/// A turn of a receive, and if it gave a message, then [`MoreReceives`].
+/// A turn of a receive, and if it gave a message, then [`MoreReceives`] of at most `more`.
 #[derive(Drop)]
 pub struct ReceiveAndMore<C, T, A: Allocator> {
     pub turn: C,
     pub into: Vec<T, A>,
-    /// How many it takes at most besides the one that the turn gives.
     pub more: usize,
     pub ghost room: { vec_len into < vec_capacity into },
 }

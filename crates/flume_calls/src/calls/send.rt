@@ -85,9 +85,9 @@ impl SendCall {
         ParkSend { message, signal }.apply(chan)
     }
 
-    /// A later turn: `Chan::poll_send`, or `Chan::withdraw_send` if it is the `last`, as at its
-    /// deadline. `Done(Ok)`: the message was taken in, or the ticket is spent. `Timeout`: it
-    /// withdrew. `Disconnected`: still blocked, in a closed channel. Doesn't allocate.
+    /// A later turn: `Chan::poll_send`, in which a given signal replaces the one that it left, or
+    /// `Chan::withdraw_send` if it is the `last`, as at its deadline. `Ok`: taken in, or the ticket
+    /// is spent. `Timeout`: it withdrew. `Disconnected`: blocked, but closed. Doesn't allocate.
     /// ```
     /// let mut chan: Chan<u64, u32> = Chan::new(alloc, Some(0));
     /// if let SendNext::Park(call) = SendCall::park(7, 10, &mut chan) {
@@ -187,7 +187,6 @@ impl<T: Drop, S: Drop, A: Allocator + Copy> Turn<T, S, A> for ParkSend<T, S> {
 pub struct AgainSend<S> {
     pub call: SendCall,
     pub last: bool,
-    /// Replaces the one that it left.
     pub signal: Option<S>,
 }
 

@@ -81,7 +81,6 @@ impl PolledReceive {
 }
 
 impl PolledReceive {
-    // `poll` knows of `begin` and `ask` only what they ensure, so both have its clauses.
     #[inline(always)]
     fn begin<T: Drop, S: Drop, A: Allocator + Copy>(
         &mut self,

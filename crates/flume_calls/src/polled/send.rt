@@ -21,8 +21,7 @@ pub enum PolledSend<T> {
 }
 
 impl<T: Drop> PolledSend<T> {
-    /// The turn that takes a blocked message back, which its owner has to make. `None`: it isn't
-    /// parked. An unsent message is dropped.
+    /// The turn, for its owner to make, that takes a blocked message back. Drops an unsent one.
     /// ```
     /// let mut chan: Chan<u64, u32> = Chan::new(alloc, Some(0));
     /// let mut send = PolledSend::Unsent(7);
@@ -95,7 +94,6 @@ impl<T: Drop> PolledSend<T> {
         self.finish_poll(SendCall::park(message, signal, chan))
     }
 
-    // A send that would wait without a signal takes its message back.
     #[inline(always)]
     fn ask<S: Drop, A: Allocator + Copy>(
         &mut self,

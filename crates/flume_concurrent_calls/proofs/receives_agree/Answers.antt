@@ -31,7 +31,8 @@ module _ {T A : Type 0} where
       → stage_after call Begun reply ≡ stage_of_receive next
   tries call (reply.Got m) next is h = ap stage_of_receive (sym h)
   tries call reply.Empty next is h =
-      of_both (λ call. stage_after {A = A} call Begun reply.Empty ≡ stage_of_receive next) (ap stage_of_receive (sym h)) (ap stage_of_receive (sym h)) call is
+      of_both (λ call. stage_after {A = A} call Begun reply.Empty ≡ stage_of_receive next) (ap stage_of_receive (sym h))
+      (ap stage_of_receive (sym h)) call is
   tries call reply.Ended next is h = ap stage_of_receive (sym h)
   tries call (reply.NoMemory back) next is h =
       of_both (λ call. stage_after {A = A} call Begun (reply.NoMemory back) ≡ stage_of_receive next) (ap stage_of_receive (sym h))

@@ -18,7 +18,9 @@ use Rattle.flume_state.specs.Notices.{due_now, with_signal}
 use Rattle.flume_state.specs.Sends.{newly_blocked, noticed_send, with_notice}
 use Rattle.flume_state.specs.Receivers.{EntryList, new_receiver, noticed_receiver, waits_on}
 use Rattle.flume_state.specs.State.{State}
-use Rattle.flume_state.specs.Effects.{Returns, after_end_dropped, after_withdrawal, after_wake_round, after_take, without_receiver, with_peak, after_admissions, with_capacity}
+use Rattle.flume_state.specs.Effects.{Returns, after_end_dropped, after_withdrawal, after_wake_round}
+use Rattle.flume_state.specs.Effects.{after_take, without_receiver, with_peak, after_admissions}
+use Rattle.flume_state.specs.Effects.{with_capacity}
 use Rattle.flume_state.specs.Due.{BecomesDue, SendDue, ReceiverDue, blocked_in, closed_between, receiver_due_in, waits_by}
 use Rattle.flume_core.specs.Represents.{IsReachable, IsRefusal}
 use Rattle.flume_core.proofs.dues.OneTicketLemmas.{send_kept, send_closed, receiver_kept, receiver_waits}
@@ -112,7 +114,8 @@ module _ {T S A : Type 0} where
   moved_left : (old mid new : State T S) (step : Step T) (reply : Reply T A) (t : ℕ) → NoneWaits step reply → MovesIn old mid
       → entry_of t (without_ticket t old.entries) ≡ None → new ≡ without_receiver t mid → BecomesDue old step reply new
   moved_left old mid new step reply t idle moves alone is =
-      by_sides old (without_receiver t mid) new step reply is moves.senders moves.receivers idle (accepts_due old.sends mid.sends moves.sends)
+      by_sides old (without_receiver t mid) new step reply is moves.senders moves.receivers idle
+      (accepts_due old.sends mid.sends moves.sends)
       (subst (λ es. ReceiversDue old.entries (without_ticket t es)) (sym moves.entries) (gone_receivers old.entries t alone))
 
   -- the front is handed out
@@ -146,7 +149,8 @@ module _ {T S A : Type 0} where
   pub resized_due : (old new : State T S) (step : Step T) (reply : Reply T A) (capacity_ : ℕ) → NoneWaits step reply → IsReachable A old
       → new ≡ with_capacity capacity_ old → BecomesDue old step reply new
   resized_due old new step reply capacity_ idle reachable is =
-      let set_ = moves_capacity old old (Some capacity_) (greater old.greatest (Some capacity_)) (moves_none old (tickets_of old reachable).live) in
+      let set_ = moves_capacity old old (Some capacity_) (greater old.greatest (Some capacity_))
+      (moves_none old (tickets_of old reachable).live) in
       moved old _ new step reply idle (moves_filled_up old _ set_) is
 
   -- a receiver parks
@@ -209,7 +213,8 @@ module _ {T S A : Type 0} where
   pub leaves : (old new : State T S) (step : Step T) (reply : Reply T A) (n m : ℕ) → NoneWaits step reply → IsReachable A old
       → new ≡ after_end_dropped (not (is_closed old.senders old.receivers)) (record old { senders = n; receivers = m })
       → BecomesDue old step reply new
-  leaves old new step reply n m idle reachable is = go (eqb (n + m) 0) (not (is_closed old.senders old.receivers) && is_closed n m) refl refl
+  leaves old new step reply n m idle reachable is =
+      go (eqb (n + m) 0) (not (is_closed old.senders old.receivers) && is_closed n m) refl refl
     where
       Claim : State T S → Type 0
       Claim s = BecomesDue old step reply s
@@ -254,6 +259,7 @@ module _ {T S A : Type 0} where
       go : (b : Bool) → passes_on (entry_of t old.entries) ≡ b → BecomesDue old step reply new
       go true e =
           let alone = (tickets_of old reachable).alone t in
-          by_sides old (after_wake_round (without_receiver t old)) new step reply (rw e at is) refl refl idle (λ u. send_kept (get old.sends u))
+          by_sides old (after_wake_round (without_receiver t old)) new step reply (rw e at is) refl refl idle
+          (λ u. send_kept (get old.sends u))
           (passed_receivers old.queue old.entries t alone)
       go false e = left old new step reply t idle reachable (rw e at is)

@@ -31,7 +31,8 @@ module _ {S : Type 0} where
   pub new_sends : (m : SendMap S) (k : ℕ) (signal : S) → get m k ≡ None → SendsDue m (insert m k (newly_blocked signal))
   new_sends m k signal none t =
       ⊎_elim (λ e.
-      subst (λ y. SendDue false (get m t) y) (sym (ap (get (insert m k (newly_blocked signal))) e ∙ get-insert_same m k (newly_blocked signal)))
+      subst (λ y. SendDue false (get m t) y) (sym (ap (get (insert m k (newly_blocked signal))) e
+      ∙ get-insert_same m k (newly_blocked signal)))
       (send_new false signal (get m t) (ap (get m) e ∙ none)))
       (λ ne. subst (λ y. SendDue false (get m t) y) (sym (get-insert_other m k (newly_blocked signal) t ne)) (send_kept (get m t)))
       (cases_eq t k)
@@ -81,6 +82,7 @@ module _ {T S : Type 0} where
   passed_receivers queue es k alone t =
       ⊎_elim (λ e.
       subst (λ y. ReceiverDue false (entry_of t es) y)
-      (sym (ap (λ u. entry_of u (round_for due_now queue (without_ticket k es))) e ∙ none_round_for k queue (without_ticket k es) alone)) refl)
+      (sym (ap (λ u. entry_of u (round_for due_now queue (without_ticket k es))) e ∙ none_round_for k queue (without_ticket k es) alone))
+      refl)
       (λ ne. subst (λ x. ReceiverDue false x (entry_of t (round_for due_now queue (without_ticket k es))))
       (entry_without t k es (ne_eqb k t (λ e. ne (sym e)))) (round_for_due t queue (without_ticket k es))) (cases_eq t k)

@@ -1,11 +1,13 @@
 -- Blocked messages that move into the queue: whose sends are accepted by that.
-use Rattle.std.proofs.Common.{◌≡◌, ℕ, suc, Bool, true, false, not, if◌then◌else◌, inl, Option, List, [], ◌∷◌, ◌++◌, length, refl, subst, arith}
+use Rattle.std.proofs.Common.{◌≡◌, ℕ, suc, Bool, true, false, not, if◌then◌else◌, inl, Option, List, [], ◌∷◌}
+use Rattle.std.proofs.Common.{◌++◌, length, refl, subst, arith}
 use Rattle.std.specs.List.{All}
 use Rattle.flume_model.specs.Limits.{is_full}
 use Rattle.flume_state.specs.Messages.{Blocked}
 use Rattle.flume_state.specs.Sends.{changed, accepted_now}
 use Rattle.flume_state.specs.State.{State}
-use Rattle.flume_state.specs.Effects.{after_admission_of, after_admission, after_refill, with_front_of, with_front, after_admissions_of, after_admissions, after_take}
+use Rattle.flume_state.specs.Effects.{after_admission_of, after_admission, after_refill, with_front_of}
+use Rattle.flume_state.specs.Effects.{with_front, after_admissions_of, after_admissions, after_take}
 use Rattle.flume_core.proofs.dues.SendsDueLemmas.{IsBlocked, Accepts, accepts_more}
 
 module _ {T S : Type 0} where

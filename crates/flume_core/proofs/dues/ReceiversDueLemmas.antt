@@ -55,7 +55,8 @@ module _ {T S : Type 0} where
       by_case false differ rest = simp differ (ap (cond (eqb e.ticket t) (Some e)) rest)
 
   -- leaving a receiver out also leaves out how its notice was changed
-  pub without_noticed : (f : Notice S → Notice S) (t : ℕ) (es : EntryList T S) → without_ticket t (noticed_receiver f t es) ≡ without_ticket t es
+  pub without_noticed : (f : Notice S → Notice S) (t : ℕ) (es : EntryList T S)
+      → without_ticket t (noticed_receiver f t es) ≡ without_ticket t es
   without_noticed f t [] = refl
   without_noticed f t (e ∷ es) = by_case (eqb e.ticket t) refl (without_noticed f t es)
     where

@@ -45,8 +45,7 @@ impl<T: Drop, S: Drop, A: Allocator + Copy> Chan<T, S, A> {
         }
     }
 
-    /// Asks as `try_recv` does, and parks instead of `Empty`, behind all others. `Spent`: every
-    /// ticket was issued. `NoMemory`: there was no room to park.
+    /// As `try_recv`, never `Empty`: it parks behind all others, or answers `NoMemory` or `Spent`.
     /// ```
     /// let mut chan: Chan<u64, u32> = Chan::new(alloc, None);
     /// chan.recv(Kind::Block, 10);        // Parked(1), with the signal 10

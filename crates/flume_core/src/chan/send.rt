@@ -59,8 +59,7 @@ impl<T: Drop, S: Drop, A: Allocator + Copy> Chan<T, S, A> {
         Reply::Sent { filled }
     }
 
-    /// Offers a message as `try_send` does, and blocks behind the queue instead of `Full`.
-    /// `NoMemory`: also if there was no room to block.
+    /// As `try_send`, never `Full`: it blocks behind the queue, or answers `NoMemory` or `Spent`.
     /// ```
     /// let mut chan: Chan<u64, u32> = Chan::new(alloc, Some(0));
     /// chan.send(7, 10);                  // Pending(1), with the signal 10
@@ -143,8 +142,7 @@ impl<T: Drop, S: Drop, A: Allocator + Copy> Chan<T, S, A> {
         }
     }
 
-    /// Takes back the message of the blocked send with this ticket. `Accepted`: it was taken in
-    /// before. Doesn't allocate.
+    /// Takes back the message of this blocked send, if it isn't `Accepted` yet. Doesn't allocate.
     pub fn withdraw_send(&mut self, ticket: u64) -> Reply<T, A>
         ensures step { Extends self.old (Step.WithdrawSend ticket) result self.new }
         ensures becomes_due { IsReachable A self.old
@@ -181,7 +179,7 @@ impl<T: Drop, S: Drop, A: Allocator + Copy> Chan<T, S, A> {
             → Returns self.old self.new ticket message closed }
         ensures absent { result ≡ Reply.NoTicket
             → All (λ b. b.ticket ≢ ticket) self.old.blocked }
-        ensures possible_reply { (result ≡ Reply.NoTicket)
+        ensures no_ticket_or_returned { (result ≡ Reply.NoTicket)
             ⊎ ((message : T) × (closed : Bool) × (result ≡ Reply.Returned message closed)) }
         ensures space { self.new.space ≡ self.old.space }
         ensures unchanged { IsRefusal result → self.new ≡ self.old }

@@ -9,8 +9,7 @@ use flume_state::entries::ReceiverStatus;
 use std::alloc::Allocator;
 
 impl<T: Drop, S: Drop, A: Allocator + Copy> Chan<T, S, A> {
-    /// Whether the abstract channel may answer the step with `NoMemory` in this state: to a receive
-    /// also while a message is blocked, though a `Chan` never does. No step; doesn't allocate.
+    /// Whether `NoMemory` may answer the step now, even if no `Chan` answers so. Doesn't allocate.
     /// ```
     /// let mut chan: Chan<u64, u32> = Chan::new(alloc, Some(0));
     /// chan.no_memory_is_lawful(&Step::TryRecv);    // false

@@ -1,5 +1,6 @@
 -- How long it is, by what the clock read.
-use Rattle.std.proofs.Common.{◌≡◌, ℕ, ◌+◌, ◌<◌, ◌≤◌, ◌↔◌, ◌⊎◌, inl, inr, Result, Ok, Err, Option, Some, None, IsErr, IsNone, IfSome, refl, arith}
+use Rattle.std.proofs.Common.{◌≡◌, ℕ, ◌+◌, ◌<◌, ◌≤◌, ◌↔◌, ◌⊎◌, inl, inr, Result, Ok, Err, Option, Some, None}
+use Rattle.std.proofs.Common.{IsErr, IsNone, IfSome, refl, arith}
 use Rattle.std.proofs.lemmas.Bool.{cases_order}
 use Rattle.std.specs.Duration.{as_nanos}
 use Rattle.std.specs.declared.time.Duration.{Duration}
@@ -17,7 +18,8 @@ module _ {E : Type 0} where
   until_of (Err e) deadline (Some d) unread reached left = absurd (let none = unread refl in let no : ⊥ = cc in no)
   until_of (Ok time) deadline (Some d) unread reached left = go (cases_order (instant_nanos time) (instant_nanos deadline))
     where
-      go : (instant_nanos time ≡ instant_nanos deadline) ⊎ ((instant_nanos time < instant_nanos deadline) ⊎ (instant_nanos deadline < instant_nanos time))
+      go : (instant_nanos time ≡ instant_nanos deadline) ⊎ ((instant_nanos time < instant_nanos deadline)
+          ⊎ (instant_nanos deadline < instant_nanos time))
           → (now : ℕ) × (now < instant_nanos deadline) × (as_nanos d + now ≡ instant_nanos deadline)
       go (inl same) = absurd (let none = (reached time refl).1 (omega arith) in let no : ⊥ = cc in no)
       go (inr (inl less)) = (instant_nanos time, less, left time refl)

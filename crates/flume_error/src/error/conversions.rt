@@ -1,6 +1,5 @@
-//! Conversions to std's errors, which `?` makes. A message that wasn't sent is dropped. A crate
-//! that uses them lists `flume_error` among its libraries, since `flume` can't re-export them. That
-//! the io error has the error's text is only tested.
+//! Conversions to std's errors, by `?`, for a crate that lists `flume_error` among its libraries.
+//! A message that wasn't sent is dropped. That the io error has the error's text is only tested.
 ghost use Rattle.std.specs.Prelude.{◌≡◌};
 ghost use Rattle.std.specs.Allocator.{alloc_error};
 ghost use Rattle.std.specs.IoError.{error_kind};

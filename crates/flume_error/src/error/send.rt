@@ -1,11 +1,10 @@
 //! The errors of the sends. Each holds the message that wasn't sent.
-ghost use Rattle.std.specs.Prelude.{◌≡◌, Some};
+ghost use Rattle.std.specs.Prelude.{◌≡◌, Some, codes};
 ghost use Rattle.std.specs.Fmt.{styled_text};
 ghost use Rattle.flume_error.specs.Messages.{send_message, try_send_message, send_timeout_message};
 ghost use Rattle.flume_error.specs.Messages.{as_try_send, as_send_timeout};
 ghost use Rattle.flume_error.specs.Texts.{send_text, try_send_text, send_timeout_text};
-ghost use Rattle.flume_error.specs.Texts.{send_debug_text, try_send_debug_text};
-ghost use Rattle.flume_error.specs.Texts.{send_timeout_debug_text};
+ghost use Rattle.flume_error.specs.Texts.{try_send_debug_text};
 
 use std::error::Error;
 use std::fmt;
@@ -19,14 +18,12 @@ pub enum SendError<T> {
     NoMemory(T),
 }
 
-/// A send that doesn't wait gave its message back.
+/// A send that doesn't wait gave its message back. But for `Full`, the cases are `SendError`'s.
 #[derive(Clone, Copy, PartialEq, Eq, Drop)]
 pub enum TrySendError<T> {
     /// The channel is full, and isn't closed: the message may be taken in later.
     Full(T),
-    /// The channel is closed.
     Disconnected(T),
-    /// Out of memory, to queue the message.
     NoMemory(T),
 }
 
@@ -41,7 +38,6 @@ pub enum SendTimeoutError<T> {
 
 impl<T> SendError<T> {
     /// The message that wasn't sent, whatever the reason. Doesn't allocate.
-    ///
     /// ```
     /// SendError::Disconnected(7).into_inner(); // 7
     /// ```
@@ -66,7 +62,6 @@ impl<T> SendError<T> {
 
 impl<T> TrySendError<T> {
     /// The message that wasn't sent, whatever the reason. Doesn't allocate.
-    ///
     /// ```
     /// TrySendError::Full(7).into_inner(); // 7
     /// ```
@@ -93,7 +88,6 @@ impl<T> TrySendError<T> {
 
 impl<T> SendTimeoutError<T> {
     /// The message that wasn't sent, whatever the reason. Doesn't allocate.
-    ///
     /// ```
     /// SendTimeoutError::Timeout(7).into_inner(); // 7
     /// ```
@@ -170,9 +164,9 @@ impl<T> fmt::Display for SendTimeoutError<T> {
     }
 }
 
-/// Not derived: the message needn't be `Debug`. The text has its quotation marks.
+/// Not derived: the message needn't be `Debug`.
 impl<T> fmt::Debug for SendError<T> {
-    ghost debug_output = { λ _. Some send_debug_text };
+    ghost debug_output = { λ _. Some (codes "\"SendError(..)\"") };
 
     fn fmt<W: fmt::Write>(&self, f: &mut fmt::Formatter<W>) -> fmt::Result {
         fmt::Debug::fmt(&"SendError(..)", f)
@@ -193,7 +187,7 @@ impl<T> fmt::Debug for TrySendError<T> {
 }
 
 impl<T> fmt::Debug for SendTimeoutError<T> {
-    ghost debug_output = { λ _. Some send_timeout_debug_text };
+    ghost debug_output = { λ _. Some (codes "\"SendTimeoutError(..)\"") };
 
     fn fmt<W: fmt::Write>(&self, f: &mut fmt::Formatter<W>) -> fmt::Result {
         fmt::Debug::fmt(&"SendTimeoutError(..)", f)

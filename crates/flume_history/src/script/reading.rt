@@ -11,7 +11,6 @@ use std::marker::Model;
 #[derive(Drop)]
 pub(crate) struct Pair<'s> {
     pub(crate) step: Step<u64>,
-    /// The text of its reply.
     pub(crate) said: &'s [u8],
 }
 

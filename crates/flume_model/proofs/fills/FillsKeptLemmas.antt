@@ -2,7 +2,8 @@
 use Rattle.flume_model.proofs.Common.{◌≡◌, ℕ, Bool, true, false, if◌then◌else◌, eqb, List, [], ◌∷◌, ◌++◌, Option, Some, None, refl, sym}
 use Rattle.flume_model.proofs.Common.{◌∙◌, ap, eq-eqb, ne_eqb, Channel, is_filled, is_woken, round, round_fills, round_for, all_woken}
 use Rattle.flume_model.proofs.Common.{entry_of, without_ticket, held_in, held_by, Change, Queues, Takes, Parks, Asks, Collects, Leaves}
-use Rattle.flume_model.proofs.Common.{SenderLeaves, ReceiverLeaves, is_ticket, LogEntry, same_notice, entries_after, Apart, Entry, Mark, Waiting}
+use Rattle.flume_model.proofs.Common.{SenderLeaves, ReceiverLeaves, is_ticket, LogEntry, same_notice}
+use Rattle.flume_model.proofs.Common.{entries_after, Apart, Entry, Mark, Waiting}
 use Rattle.flume_model.proofs.Common.{Woken, Filled, Kind, Block, Plain, Stream, Arm, arith, common_steps}
 use Rattle.flume_model.proofs.EntryListLemmas.{fills_none_else, round_for_push, again_cases, leave_cases}
 use Rattle.flume_model.proofs.EntryMarkLemmas.{apart_without}
@@ -20,14 +21,14 @@ module _ {T N : Type 0} where
   same_first t m x y es fs ticket first others h = grind (arith, common_steps)
 
   -- a wake round takes no message from an entry
-  pub held_round : (tell : N → N) (front : T) (t : ℕ) (m : T) (es : List (Entry T N)) → IsHeld t m es → IsHeld t m (round tell front es)
-  held_round tell front t m [] h = h
-  held_round tell front t m (x ∷ es) h = grind (arith, common_steps, held_round tell front t m es)
+  pub held_round : (notify : N → N) (front : T) (t : ℕ) (m : T) (es : List (Entry T N)) → IsHeld t m es → IsHeld t m (round notify front es)
+  held_round notify front t m [] h = h
+  held_round notify front t m (x ∷ es) h = grind (arith, common_steps, held_round notify front t m es)
 
   -- the wake of all takes no message from an entry
-  pub held_woken : (tell : N → N) (t : ℕ) (m : T) (es : List (Entry T N)) → IsHeld t m es → IsHeld t m (all_woken tell es)
-  held_woken tell t m [] h = h
-  held_woken tell t m (x ∷ es) h = grind (arith, common_steps, held_woken tell t m es)
+  pub held_woken : (notify : N → N) (t : ℕ) (m : T) (es : List (Entry T N)) → IsHeld t m es → IsHeld t m (all_woken notify es)
+  held_woken notify t m [] h = h
+  held_woken notify t m (x ∷ es) h = grind (arith, common_steps, held_woken notify t m es)
 
   -- the leaving of another takes no message from an entry
   pub held_without : (u t : ℕ) (m : T) (es : List (Entry T N)) → eqb u t ≡ false → IsHeld t m es → IsHeld t m (without_ticket u es)
@@ -141,7 +142,7 @@ module _ {T : Type 0} where
       by_found : (found : Option (LogEntry T)) → entry_of t c.entries ≡ found → (e : LogEntry T) × (entry_of t c.entries ≡ Some e)
       by_found None none =
           let other = fills_none c done t h none in
-          let told : is_ticket t (fills done) ≡ eqb t t = ap (is_ticket t) is in
+          let same_ticket : is_ticket t (fills done) ≡ eqb t t = ap (is_ticket t) is in
           let same = eq-eqb t t refl in
           absurd (let none : ⊥ = cc in none)
       by_found (Some e) found = (e, found)

@@ -2,7 +2,8 @@
 -- message that it holds as it leaves.
 use Rattle.flume_model.proofs.Common.{◌≡◌, ℕ, ◌≤◌, Bool, true, false, not, ◌&&◌, if◌then◌else◌, eqb, [], ◌∷◌, Option, Some, None, refl, sym}
 use Rattle.flume_model.proofs.Common.{◌∙◌, ap, arith, inl, inr, ◌⊎◌, eqb-true, eq-eqb, subst, cond-false, IsPolledMark, IsPolled}
-use Rattle.flume_model.proofs.Common.{IsGoneMark, IsGone, Channel, channel, is_over, entry_of, without_ticket, held_in, held_by, or_else, shows_to}
+use Rattle.flume_model.proofs.Common.{IsGoneMark, IsGone, Channel, channel, is_over, entry_of, without_ticket}
+use Rattle.flume_model.proofs.Common.{held_in, held_by, option_or, shows_to}
 use Rattle.flume_model.proofs.Common.{shown, next_ticket, queue, Log, Opening, Change, Takes, Parks, Collects, was_filled, change, LogEntry}
 use Rattle.flume_model.proofs.Common.{entries_after, entries, is_closed_after, IsReply, IsRun, Mark, Kind, Reply, Got, Step, Poll, Withdraw}
 use Rattle.flume_model.proofs.Common.{common_steps}
@@ -51,7 +52,7 @@ module _ {T : Type 0} where
   gone_held A c t (Some e) y m h holds = withdraw_held A c t e.kind e.mark y m h holds
 
   -- of two messages, if the first isn't there nor the second, there is none
-  pub neither : (first second : Option T) → ((x : T) → first ≡ Some x → ⊥) → second ≡ None → or_else first second ≡ None
+  pub neither : (first second : Option T) → ((x : T) → first ≡ Some x → ⊥) → second ≡ None → option_or first second ≡ None
   neither first second none e = grind (arith, common_steps)
 
   -- a receiver parks under the next ticket

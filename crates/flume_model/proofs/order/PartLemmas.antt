@@ -1,8 +1,9 @@
 -- The parts of the kept offers, the shape of a log, and what they say of the line.
 use Rattle.flume_model.proofs.Common.{◌≡◌, ℕ, ◌+◌, ◌≤◌, true, false, cond, List, [], ◌∷◌, ◌++◌, length, drop, take, Option, Some, refl, sym}
 use Rattle.flume_model.proofs.Common.{◌∙◌, ap, arith, length-append, length-take-le, drop_at, take-nil, append_assoc, take-append-drop}
-use Rattle.flume_model.proofs.Common.{AllZip-long, AllZip, IsBlocked, channel, is_over, some_wait, leave_fills, TicketsRise}
-use Rattle.flume_model.proofs.Common.{BlockedAtCapacity, line, boundary, queue, messages, next_ticket, fill_count, Log, Opening, Offer}
+use Rattle.flume_model.proofs.Common.{AllZip-long, AllZip, IsBlocked, channel, is_over, some_wait, leave_fills, Rising}
+use Rattle.flume_model.proofs.Common.{◌<◌, IsAtCapacity, capacity, offers, line, boundary, queue, messages}
+use Rattle.flume_model.proofs.Common.{next_ticket, fill_count, Log, Opening, Offer}
 use Rattle.flume_model.proofs.Common.{HandOut, Shown, FilledIn, withdrawn, kept, handed_out, entries, common_steps}
 use Rattle.flume_model.proofs.LawfulReplyLemmas.{fills_none}
 use Rattle.flume_model.proofs.order.KeptLemmas.{open_line, line_is_open}
@@ -23,8 +24,8 @@ pub record Parts {T : Type 0} (all : List (Offer T)) (given : List (HandOut T)) 
 pub record Shape {T A : Type 0} (o : Opening) (log : Log T A) : Type 0 where
   pub parts : Parts (kept log) (handed_out log)
   pub within : boundary o log ≤ length (line log)
-  pub rising : TicketsRise o log
-  pub full : BlockedAtCapacity o log
+  pub rising : Rising (next_ticket o log) (offers log)
+  pub full : boundary o log < length (line log) → IsAtCapacity (capacity o log) (boundary o log)
   -- while a receiver waits the queue is the whole line
   pub waits : some_wait (entries o log) ≡ true → boundary o log ≡ length (line log)
   pub unissued : (t : ℕ) (m : T) → next_ticket o log ≤ t → withdrawn log (record { message = m; ticket = Some t }) ≡ false
@@ -95,7 +96,8 @@ module _ {T A : Type 0} where
       record { front = place.0; later = place.1; rest_are = sym (line_is_rest past shape.parts open_) ∙ place.2; queued = place.3 }
 
   -- if one that leaves fills another, the line isn't empty
-  pub leave_within : (o : Opening) (past : Log T A) (t : ℕ) → fill_count (leave_fills t (queue o past) (entries o past)) ≤ length (line past)
+  pub leave_within : (o : Opening) (past : Log T A) (t : ℕ) → fill_count (leave_fills t (queue o past) (entries o past)) ≤ length
+      (line past)
   leave_within o past t = by_case (line past) refl
     where
       by_case : (some : List (Offer T)) → line past ≡ some → fill_count (leave_fills t (queue o past) (entries o past)) ≤ length (line past)

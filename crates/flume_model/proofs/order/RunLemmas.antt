@@ -1,7 +1,8 @@
 -- What holds of each run: the laws.
 use Rattle.flume_model.proofs.Common.{◌≡◌, ℕ, Bool, true, false, List, [], ◌∷◌, ◌++◌, length, Some, zero, suc, refl, sym, ◌∙◌, ap, subst}
 use Rattle.flume_model.proofs.Common.{subst₂, not, ◌&&◌, arith, or_from, cond-true, cond-false, AllZip, slice_get, is_over, some_wait}
-use Rattle.flume_model.proofs.Common.{TicketsRise, BlockedAtCapacity, line, queue, boundary, boundary_after, capacity, Log, Opening, Offer}
+use Rattle.flume_model.proofs.Common.{◌<◌, IsAtCapacity, Rising, next_ticket, offers, line, queue, boundary}
+use Rattle.flume_model.proofs.Common.{boundary_after, capacity, Log, Opening, Offer}
 use Rattle.flume_model.proofs.Common.{HandOut}
 use Rattle.flume_model.proofs.Common.{change, kept, handed_out, entries, entries_after, is_closed_after, IsRun, Reply, Step}
 use Rattle.flume_model.proofs.LawfulReplyLemmas.{fits, not_over_yet}
@@ -30,8 +31,8 @@ module _ {T A : Type 0} where
           let same : line (p ∷ past) ≡ line_by past done = line_is_open (p ∷ past) open_ in
           let queued : boundary o (p ∷ past) ≡ boundary_after (capacity o (p ∷ past)) (length (line (p ∷ past))) (boundary o past) done =
           cond-false (is_over (p ∷ past)) 0 _ open_ in
-          let told = filled_if_named o past run.1 in
-          let room = room_after o past done shape (fits o past p.0 p.1 told run.0) (not_over_yet o past p told run open_) in
+          let named = filled_if_named o past run.1 in
+          let room = room_after o past done shape (fits o past p.0 p.1 named run.0) (not_over_yet o past p named run open_) in
           let R : ℕ → ℕ → Type 0 = λ n long. Room (capacity o (p ∷ past)) n long in
           let long : length (line (p ∷ past)) ≡ length (line_by past done) = ap length same in
           let counted = queued ∙ ap (λ n. boundary_after (capacity o (p ∷ past)) n (boundary o past) done) long in
@@ -49,7 +50,7 @@ module _ {T A : Type 0} where
           absurd (let none : ⊥ = cc in none)
       by_case false open_ =
           let done = change past p.0 p.1 in
-          let told = filled_if_named o past run.1 in
+          let named = filled_if_named o past run.1 in
           let closes = not (is_closed_after past) && is_closed_after (p ∷ past) in
           let long : length (line (p ∷ past)) ≡ length (line_by past done) = ap length (line_is_open (p ∷ past) open_) in
           let queued : boundary o (p ∷ past) ≡ boundary_after (capacity o (p ∷ past)) (length (line (p ∷ past))) (boundary o past) done =
@@ -57,7 +58,7 @@ module _ {T A : Type 0} where
           let parked : entries o (p ∷ past) ≡ entries_after (queue o past) closes (entries o past) done =
           cond-false (is_over (p ∷ past)) [] _ open_ in
           queued ∙ ap (λ n. boundary_after (capacity o (p ∷ past)) n (boundary o past) done) long
-          ∙ waits_after o past done closes shape (fits o past p.0 p.1 told run.0) (not_over_yet o past p told run open_)
+          ∙ waits_after o past done closes shape (fits o past p.0 p.1 named run.0) (not_over_yet o past p named run open_)
           (sym (ap some_wait parked) ∙ some) ∙ sym long
 
   -- each run has the shape
@@ -104,11 +105,12 @@ module _ {T A : Type 0} where
       rw parts.kept_are (matched (handed_out log) parts.gone parts.rest parts.given_are j given at_j)
 
   -- the tickets of the offers rise
-  pub tickets_rise : (o : Opening) (log : Log T A) → IsRun o log → TicketsRise o log
+  pub tickets_rise : (o : Opening) (log : Log T A) → IsRun o log → Rising (next_ticket o log) (offers log)
   tickets_rise o log run = (shape_of o log run).rising
 
   -- a sender is blocked only if the queue is at capacity
-  pub blocked_at_capacity : (o : Opening) (log : Log T A) → IsRun o log → BlockedAtCapacity o log
+  pub blocked_at_capacity : (o : Opening) (log : Log T A) → IsRun o log → boundary o log < length (line log)
+      → IsAtCapacity (capacity o log) (boundary o log)
   blocked_at_capacity o log run = (shape_of o log run).full
 
   -- while a receiver waits the queue is the whole line

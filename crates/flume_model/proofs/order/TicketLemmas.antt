@@ -2,8 +2,8 @@
 use Rattle.flume_model.proofs.Common.{◌≡◌, ℕ, ◌<◌, true, false, not, ◌||◌, ◌&&◌, List, [], ◌∷◌, ◌++◌, length, take, Some, None, refl, sym}
 use Rattle.flume_model.proofs.Common.{◌∙◌, ◌⊎◌, inl, inr, ap, arith, ne_eqb, eqb-true, eq-eqb, eqb, Option, and_parts, or_cases, or_left}
 use Rattle.flume_model.proofs.Common.{or_right, append_assoc, append-nil, take-append-drop, take_at, take-append-le, any-filter_same}
-use Rattle.flume_model.proofs.Common.{AllZip-long, filter, has_ticket, channel, is_over, IsEarlier, Rising, HandedOutStay, LiveAreKept}
-use Rattle.flume_model.proofs.Common.{AcceptedBelowBlocked, line, boundary, blocked, next_ticket, issues, spends, is_live, Log, Opening}
+use Rattle.flume_model.proofs.Common.{AllZip-long, filter, has_ticket, channel, is_over, IsEarlier, Rising}
+use Rattle.flume_model.proofs.Common.{line, boundary, blocked, next_ticket, issues, spends, is_live, Log, Opening}
 use Rattle.flume_model.proofs.Common.{Offer, Change, Queues, Blocks, Withdraws, is_ticket, change, withdrawn, offers, kept, handed_out}
 use Rattle.flume_model.proofs.Common.{hand_outs, IsRun, Reply, Step}
 use Rattle.flume_model.proofs.TicketLemmas.{filter_two, has_ticket-append, ticket_place, All-at_seam, rising_filter}
@@ -45,7 +45,8 @@ module _ {T A : Type 0} where
   stays_by o past _ shape h = same_stays past
 
   -- no step moves the place of a message that was handed out
-  pub handed_out_stay : (o : Opening) (p : Step T × Reply T A) (past : Log T A) → IsRun o (p ∷ past) → HandedOutStay p past
+  pub handed_out_stay : (o : Opening) (p : Step T × Reply T A) (past : Log T A) → IsRun o (p ∷ past)
+      → take (hand_outs past) (kept (p ∷ past)) ≡ take (hand_outs past) (kept past)
   handed_out_stay o p past run =
       stays_by o past (change past p.0 p.1) (shape_of o past run.1) (fits o past p.0 p.1 (filled_if_named o past run.1) run.0)
 
@@ -75,7 +76,8 @@ module _ {T A : Type 0} where
   has_same past t h = ap (has_ticket t) (kept_same past) ∙ h
 
   -- after a change that fits, a kept offer has a ticket that it issued, or that lived and wasn't spent by it
-  live_by : (o : Opening) (past : Log T A) (done : Change T) → Shape o past → Fits (channel o past) done → LiveAreKept past
+  live_by : (o : Opening) (past : Log T A) (done : Change T) → Shape o past → Fits (channel o past) done
+      → ((t : ℕ) → is_live past t ≡ true → has_ticket t (kept past) ≡ true)
       → (t : ℕ) → (issues done t ≡ true) ⊎ ((is_live past t && not (spends done t)) ≡ true) → has_ticket t (kept_by past done) ≡ true
   live_by o past (Blocks m u) shape h rest t (inl e) =
       has_more past (record { message = m; ticket = Some u }) t (shape.unissued u m (omega arith)) (inr (or_left _ _ e))
@@ -93,7 +95,7 @@ module _ {T A : Type 0} where
   live_by o past _ shape h rest t (inl e) = absurd (let none : ⊥ = cc in none)
 
   -- a live ticket's offer is kept
-  pub live_are_kept : (o : Opening) (log : Log T A) → IsRun o log → LiveAreKept log
+  pub live_are_kept : (o : Opening) (log : Log T A) → IsRun o log → (t : ℕ) → is_live log t ≡ true → has_ticket t (kept log) ≡ true
   live_are_kept o [] run t live = absurd (let none : ⊥ = cc in none)
   live_are_kept o (p ∷ past) run t live =
       let done = change past p.0 p.1 in
@@ -129,7 +131,8 @@ module _ {T : Type 0} where
 
 module _ {T A : Type 0} where
   -- a live ticket whose message was taken in is below that of each blocked message
-  pub accepted_below_blocked : (o : Opening) (log : Log T A) → IsRun o log → AcceptedBelowBlocked o log
+  pub accepted_below_blocked : (o : Opening) (log : Log T A) → IsRun o log → (t u : ℕ) → is_live log t ≡ true
+      → has_ticket t (blocked o log) ≡ false → has_ticket u (blocked o log) ≡ true → t < u
   accepted_below_blocked o log run t u live taken waits =
       let gone = take (hand_outs log) (kept log) in
       let queued = take (boundary o log) (line log) in

@@ -1,6 +1,7 @@
 -- Each change that fits leaves the tickets rising, and withdraws an offer with one that was issued.
 use Rattle.flume_model.proofs.Common.{◌≡◌, ℕ, ◌+◌, ◌<◌, ◌≤◌, false, not, [], ◌∷◌, ◌++◌, Some, refl, sym, ◌∙◌, ap, arith, ne_eqb}
-use Rattle.flume_model.proofs.Common.{append_assoc, append-nil, channel, Rising, tickets_issued, next_ticket, Log, Opening, Change, Queues, Blocks}
+use Rattle.flume_model.proofs.Common.{append_assoc, append-nil, channel, Rising, tickets_issued, next_ticket}
+use Rattle.flume_model.proofs.Common.{Log, Opening, Change, Queues, Blocks}
 use Rattle.flume_model.proofs.Common.{Withdraws, Parks, offers_made, withdraws, offers, withdrawn, kept}
 use Rattle.flume_model.proofs.TicketLemmas.{below_earlier, earlier_none, rising_filter, rising_below, rising_push, rising_more}
 use Rattle.flume_model.proofs.LawfulReplyLemmas.{Fits}

@@ -1,9 +1,11 @@
 -- While a receiver waits, the queue is the whole line: so it is after each change that fits.
 use Rattle.flume_model.proofs.Common.{◌≡◌, ℕ, ◌-◌, Bool, true, false, if◌then◌else◌, List, [], ◌∷◌, ◌++◌, length, max, Option, Some, None}
 use Rattle.flume_model.proofs.Common.{refl, sym, ◌∙◌, ◌⊎◌, inl, inr, ap, arith, take, length-append, length-take-le, length-map, channel}
-use Rattle.flume_model.proofs.Common.{is_over, is_woken, some_wait, entry_of, all_woken, line, queue, boundary, boundary_after, capacity, capacity_after, Log}
+use Rattle.flume_model.proofs.Common.{is_over, is_woken, some_wait, entry_of, all_woken, line, queue}
+use Rattle.flume_model.proofs.Common.{boundary, boundary_after, capacity, capacity_after, Log}
 use Rattle.flume_model.proofs.Common.{Opening, Change, Queues, Blocks, Withdraws, Takes, Drains, Parks, Asks, Collects, Leaves}
-use Rattle.flume_model.proofs.Common.{SenderLeaves, ReceiverLeaves, Resizes, capped, LogEntry, same_notice, entries, entries_after, common_steps}
+use Rattle.flume_model.proofs.Common.{SenderLeaves, ReceiverLeaves, Resizes, capped, LogEntry, same_notice}
+use Rattle.flume_model.proofs.Common.{entries, entries_after, common_steps}
 use Rattle.flume_model.proofs.WaitingCountLemmas.{wait_round_for, wait_without, wait_after_leave, wait_woken}
 use Rattle.flume_model.proofs.WaitListLemmas.{wait_again}
 use Rattle.flume_model.proofs.LawfulReplyLemmas.{Fits}
@@ -36,7 +38,8 @@ module _ {T A : Type 0} where
   -- while a receiver waits after a change that fits, the queue is the whole line
   pub waits_after : (o : Opening) (past : Log T A) (done : Change T) (closes : Bool) → Shape o past → Fits (channel o past) done
       → is_over past ≡ false → some_wait (entries_after (queue o past) closes (entries o past) done) ≡ true
-      → boundary_after (capacity_after (capacity o past) done) (length (line_by past done)) (boundary o past) done ≡ length (line_by past done)
+      → boundary_after (capacity_after (capacity o past) done) (length (line_by past done)) (boundary o past) done ≡ length
+      (line_by past done)
   waits_after o past (Queues m filled) closes shape h open_ some =
       let long = long_queued o past m filled shape open_ in
       let before = shape.waits (wait_round_for same_notice (queue o past ++ m ∷ []) (entries o past) some) in

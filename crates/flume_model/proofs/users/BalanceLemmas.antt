@@ -50,7 +50,8 @@ module _ {T : Type 0} where
   balanced_close weight closes es = grind (arith, common_steps, held_woken same_notice es)
 
   -- if one that asks waits again, or keeps its place
-  balanced_again : (weight : T → ℕ) (t : ℕ) (es : List (LogEntry T)) → sum_by weight (held_messages es) ≡ 0 + sum_by weight (held_messages (again t es))
+  balanced_again : (weight : T → ℕ) (t : ℕ) (es : List (LogEntry T))
+      → sum_by weight (held_messages es) ≡ 0 + sum_by weight (held_messages (again t es))
   balanced_again weight t es =
       again_cases (λ after. sum_by weight (held_messages es) ≡ 0 + sum_by weight (held_messages after)) t es (omega arith)
       (λ e found woken.
@@ -180,7 +181,8 @@ module _ {T A : Type 0} where
       let unfilled = h.0 in
       let next : messages (line (p ∷ past)) ≡ drop (fill_count (leave_fills t (queue o past) (entries o past))) (messages (line past)) =
       ap messages (line_leaves o past p t filled run e open_)
-      ∙ sym (drop-map (λ offer. offer.message) (fill_count filled) (line past)) ∙ ap (λ f. drop (fill_count f) (messages (line past))) h.1 in
+      ∙ sym (drop-map (λ offer. offer.message) (fill_count filled) (line past))
+      ∙ ap (λ f. drop (fill_count f) (messages (line past))) h.1 in
       let after = ap (sum_by weight) next in
       let left_ = balanced_left weight o past t unfilled.entry unfilled.found unfilled.empty in
       let none = ap (sum_by weight) g in

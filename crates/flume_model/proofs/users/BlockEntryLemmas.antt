@@ -13,13 +13,13 @@ module _ {T N : Type 0} where
   AllBlock (e ∷ es) = (is_block e.kind ≡ true) × AllBlock es
 
   -- all entries block after a wake round, if they did before
-  block_round : (tell : N → N) (front : T) (es : List (Entry T N)) → AllBlock es → AllBlock (round tell front es)
-  block_round tell front [] h = tt
-  block_round tell front (x ∷ es) h = grind (arith, common_steps, block_round tell front es)
+  block_round : (notify : N → N) (front : T) (es : List (Entry T N)) → AllBlock es → AllBlock (round notify front es)
+  block_round notify front [] h = tt
+  block_round notify front (x ∷ es) h = grind (arith, common_steps, block_round notify front es)
 
   -- after a round for a queue
-  block_round_for : (tell : N → N) (queue_ : List T) (es : List (Entry T N)) → AllBlock es → AllBlock (round_for tell queue_ es)
-  block_round_for tell queue_ es h = grind (arith, common_steps, block_round tell)
+  block_round_for : (notify : N → N) (queue_ : List T) (es : List (Entry T N)) → AllBlock es → AllBlock (round_for notify queue_ es)
+  block_round_for notify queue_ es h = grind (arith, common_steps, block_round notify)
 
   -- after one left
   block_without : (t : ℕ) (es : List (Entry T N)) → AllBlock es → AllBlock (without_ticket t es)
@@ -32,9 +32,9 @@ module _ {T N : Type 0} where
   block_push (y ∷ es) x h e = (h.0, block_push es x h.1 e)
 
   -- once all are woken
-  block_all_woken : (tell : N → N) (es : List (Entry T N)) → AllBlock es → AllBlock (all_woken tell es)
-  block_all_woken tell [] h = tt
-  block_all_woken tell (x ∷ es) h = grind (arith, common_steps, block_all_woken tell es)
+  block_all_woken : (notify : N → N) (es : List (Entry T N)) → AllBlock es → AllBlock (all_woken notify es)
+  block_all_woken notify [] h = tt
+  block_all_woken notify (x ∷ es) h = grind (arith, common_steps, block_all_woken notify es)
 
   -- the one with a ticket blocks
   block_found : (t : ℕ) (e : Entry T N) (es : List (Entry T N)) → AllBlock es → entry_of t es ≡ Some e → is_block e.kind ≡ true

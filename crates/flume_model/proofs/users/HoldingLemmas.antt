@@ -27,10 +27,11 @@ module _ {T N : Type 0} where
   held_cons weight x es = held_mark weight x.mark (held_messages es)
 
   -- a round adds what it fills with
-  held_round : (weight : T → ℕ) (tell : N → N) (front : T) (es : List (Entry T N))
-      → sum_by weight (held_messages (round tell front es)) ≡ fill_weighs (round_fills es) (weight front) + sum_by weight (held_messages es)
-  held_round weight tell front [] = omega arith
-  held_round weight tell front (x ∷ es) = grind (arith, common_steps, held_round weight tell front es, sum_by-cons)
+  held_round : (weight : T → ℕ) (notify : N → N) (front : T) (es : List (Entry T N))
+      → sum_by weight (held_messages (round notify front es)) ≡ fill_weighs (round_fills es) (weight front) + sum_by weight
+      (held_messages es)
+  held_round weight notify front [] = omega arith
+  held_round weight notify front (x ∷ es) = grind (arith, common_steps, held_round weight notify front es, sum_by-cons)
 
   -- an entry that leaves takes along what it holds
   pub held_without : (weight : T → ℕ) (t : ℕ) (e : Entry T N) (es : List (Entry T N)) → entry_of t es ≡ Some e
@@ -49,19 +50,20 @@ module _ {T N : Type 0} where
       omega arith
 
   -- a wake of all leaves what they hold
-  pub held_woken : (tell : N → N) (es : List (Entry T N)) → held_messages (all_woken tell es) ≡ held_messages es
-  held_woken tell [] = refl
-  held_woken tell (x ∷ es) = grind (arith, common_steps, held_woken tell es)
+  pub held_woken : (notify : N → N) (es : List (Entry T N)) → held_messages (all_woken notify es) ≡ held_messages es
+  held_woken notify [] = refl
+  held_woken notify (x ∷ es) = grind (arith, common_steps, held_woken notify es)
 
   -- what a round fills with leaves the front of the messages
-  pub round_front : (weight : T → ℕ) (tell : N → N) (front : T) (rest : List T) (es : List (Entry T N))
-      → sum_by weight (drop (fill_count (round_fills es)) (front ∷ rest)) + sum_by weight (held_messages (round tell front es))
+  pub round_front : (weight : T → ℕ) (notify : N → N) (front : T) (rest : List T) (es : List (Entry T N))
+      → sum_by weight (drop (fill_count (round_fills es)) (front ∷ rest)) + sum_by weight (held_messages (round notify front es))
       ≡ sum_by weight (front ∷ rest) + sum_by weight (held_messages es)
-  round_front weight tell front rest es = grind (arith, common_steps, held_round weight tell front es, sum_by-cons)
+  round_front weight notify front rest es = grind (arith, common_steps, held_round weight notify front es, sum_by-cons)
 
   -- what a round hands to a receiver, if one more message was queued, it takes from the queue
-  pub queued_weighs : (weight : T → ℕ) (tell : N → N) (queue_ : List T) (m : T) (es : List (Entry T N))
-      → sum_by weight (drop (fill_count (round_fills es)) (queue_ ++ m ∷ [])) + sum_by weight (held_messages (round_for tell (queue_ ++ m ∷ []) es))
+  pub queued_weighs : (weight : T → ℕ) (notify : N → N) (queue_ : List T) (m : T) (es : List (Entry T N))
+      → sum_by weight (drop (fill_count (round_fills es)) (queue_ ++ m ∷ [])) + sum_by weight
+      (held_messages (round_for notify (queue_ ++ m ∷ []) es))
       ≡ sum_by weight (queue_ ++ m ∷ []) + sum_by weight (held_messages es)
-  queued_weighs weight tell [] m es = round_front weight tell m [] es
-  queued_weighs weight tell (front ∷ rest) m es = round_front weight tell front (rest ++ m ∷ []) es
+  queued_weighs weight notify [] m es = round_front weight notify m [] es
+  queued_weighs weight notify (front ∷ rest) m es = round_front weight notify front (rest ++ m ∷ []) es

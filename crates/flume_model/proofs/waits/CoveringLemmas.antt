@@ -41,7 +41,8 @@ module _ {T : Type 0} where
   -- one that leaves and passes its wake on
   covered_passed : (c : Channel T) (t : ℕ) (e : LogEntry T) (front : T) → entry_of t c.entries ≡ Some e
       → c.boundary ≤ woken_count c.entries → some_wait (round same_notice front (without_ticket t c.entries)) ≡ true
-      → c.boundary - fill_count (round_fills (without_ticket t c.entries)) ≤ woken_count (round same_notice front (without_ticket t c.entries))
+      → c.boundary - fill_count (round_fills (without_ticket t c.entries)) ≤ woken_count
+      (round same_notice front (without_ticket t c.entries))
   covered_passed c t e front found le some =
       let left_ = without_counts t e c.entries found in
       let woken = left_.woken in
@@ -59,7 +60,8 @@ module _ {T : Type 0} where
 
   -- after a change that fits
   covered_by : (c : Channel T) (closes : Bool) (done : Change T) (n : ℕ) → Stood c → Fits c done → Long c done n
-      → boundary_after (capacity_after c.capacity done) n c.boundary done ≤ n → (some_wait c.entries ≡ true → c.boundary ≤ woken_count c.entries)
+      → boundary_after (capacity_after c.capacity done) n c.boundary done ≤ n
+      → (some_wait c.entries ≡ true → c.boundary ≤ woken_count c.entries)
       → some_wait (entries_after c.queue closes c.entries done) ≡ true
       → boundary_after (capacity_after c.capacity done) n c.boundary done ≤ woken_count (entries_after c.queue closes c.entries done)
   covered_by c closes (Queues m filled) n stood h long within before some =

@@ -5,7 +5,7 @@ use Rattle.flume_model.proofs.Common.{ap, arith, drop, eqb-false, length-drop, d
 use Rattle.flume_model.proofs.Common.{senders_after, receivers_after, is_over, is_woken, some_wait, all_woken, IsOpen, is_closed, line}
 use Rattle.flume_model.proofs.Common.{boundary, blocked, is_live, Log, Opening, Change, Queues, Takes, Parks, Asks, Collects, Leaves}
 use Rattle.flume_model.proofs.Common.{SenderJoins, ReceiverJoins, SenderLeaves, ReceiverLeaves, change, same_notice, entries_after, entries}
-use Rattle.flume_model.proofs.Common.{IsRun, WaitsWhileOpen, NothingOnceOver, Reply, Step, common_steps}
+use Rattle.flume_model.proofs.Common.{IsRun, Reply, Step, common_steps}
 use Rattle.flume_model.proofs.LawfulReplyLemmas.{Fits}
 use Rattle.flume_model.proofs.WaitingCountLemmas.{wait_without, wait_after_leave, wait_woken}
 use Rattle.flume_model.proofs.EntryListLemmas.{again_cases}
@@ -32,7 +32,8 @@ module _ {T : Type 0} where
   open_close : (c : Channel T) (s2 r2 : ℕ) (closes : Bool) → closes ≡ (not (is_closed c.senders c.receivers) && is_closed s2 r2)
       → (some_wait c.entries ≡ true → IsOpen c.senders c.receivers)
       → some_wait (if closes then all_woken same_notice c.entries else c.entries) ≡ true → IsOpen s2 r2
-  open_close c s2 r2 closes e before some = grind (arith, common_steps, wait_woken same_notice c.entries, open_still c.senders c.receivers s2 r2)
+  open_close c s2 r2 closes e before some =
+      grind (arith, common_steps, wait_woken same_notice c.entries, open_still c.senders c.receivers s2 r2)
 
   -- after a change that fits
   open_by : (c : Channel T) (closes : Bool) (done : Change T) → Fits c done
@@ -78,7 +79,8 @@ module _ {T A : Type 0} where
   waits_whole o log run some = (shape_of o log run).waits some
 
   -- a receiver waits only in an open channel, and only while no sender is blocked
-  pub waits_while_open : (o : Opening) (log : Log T A) → IsRun o log → WaitsWhileOpen o log
+  pub waits_while_open : (o : Opening) (log : Log T A) → IsRun o log → some_wait (entries o log) ≡ true
+      → IsOpen (senders log) (receivers log) × (blocked o log ≡ [])
   waits_while_open o log run some =
       let whole = waits_whole o log run some in
       (waits_open o log run some, none_blocked_by o log (omega arith))
@@ -89,5 +91,6 @@ module _ {T A : Type 0} where
   none_live_once_over (p ∷ past) over t = rw over refl
 
   -- once both sides have disconnected, nothing is left
-  pub nothing_once_over : (o : Opening) (log : Log T A) → IsRun o log → NothingOnceOver o log
+  pub nothing_once_over : (o : Opening) (log : Log T A) → IsRun o log → is_over log ≡ true
+      → (line log ≡ []) × (entries o log ≡ []) × ((t : ℕ) → is_live log t ≡ false)
   nothing_once_over o log run over = (line_over log over, nobody_once_over o log over, none_live_once_over log over)

@@ -125,7 +125,8 @@ module _ {T A : Type 0} where
   stepped o past p run still =
       let open_ = not_over_yet o past p (filled_if_named o past run.1) run still in
       let fit = fits_run o past p run in
-      let queued : boundary o (p ∷ past) ≡ boundary_after (capacity o (p ∷ past)) (length (line (p ∷ past))) (boundary o past) (change past p.0 p.1) =
+      let queued : boundary o (p ∷ past) ≡ boundary_after (capacity o (p ∷ past)) (length (line (p ∷ past))) (boundary o past)
+      (change past p.0 p.1) =
       cond-false (is_over (p ∷ past)) 0 _ still in
       let in_line = (shape_of o (p ∷ past) run).within in
       record {

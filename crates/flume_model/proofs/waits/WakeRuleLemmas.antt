@@ -10,10 +10,10 @@ module _ {T N : Type 0} where
   stands_as e k mark = record e { kind = k; mark = mark }
 
   -- a round that goes past an entry follows its rule, if the round over those behind it does
-  goes_past : (tell : N → N) (front : T) (e : Entry T N) (old new : List (Entry T N)) (filled : Option ℕ)
-      → IsPassed e → IsWakeRound tell front old new filled
-      → IsWakeRound tell front (e ∷ old) ((if is_waiting e.mark then marked tell Woken e else e) ∷ new) filled
-  goes_past tell front e old new filled stream (inl one) = inl (record {
+  goes_past : (notify : N → N) (front : T) (e : Entry T N) (old new : List (Entry T N)) (filled : Option ℕ)
+      → IsPassed e → IsWakeRound notify front old new filled
+      → IsWakeRound notify front (e ∷ old) ((if is_waiting e.mark then marked notify Woken e else e) ∷ new) filled
+  goes_past notify front e old new filled stream (inl one) = inl (record {
     before = e ∷ one.before;
     first = one.first;
     later = one.later;
@@ -21,20 +21,20 @@ module _ {T N : Type 0} where
     passed = All-cons IsPassed e one.before stream one.passed;
     waits = one.waits;
     no_stream = one.no_stream;
-    new_are = ap (λ l. (if is_waiting e.mark then marked tell Woken e else e) ∷ l) one.new_are;
+    new_are = ap (λ l. (if is_waiting e.mark then marked notify Woken e else e) ∷ l) one.new_are;
     fills = one.fills;
   })
-  goes_past tell front e old new filled stream (inr none) = inr (record {
+  goes_past notify front e old new filled stream (inr none) = inr (record {
     passed = All-cons IsPassed e old stream none.passed;
-    new_are = ap (λ l. (if is_waiting e.mark then marked tell Woken e else e) ∷ l) none.new_are;
+    new_are = ap (λ l. (if is_waiting e.mark then marked notify Woken e else e) ∷ l) none.new_are;
     fills = none.fills;
   })
 
   -- a round that ends at its first entry follows its rule
-  ends : (tell : N → N) (front : T) (e : Entry T N) (es : List (Entry T N)) → is_waiting e.mark ≡ true → e.kind ≢ Stream
-      → IsWakeRound tell front (e ∷ es) (marked tell (if is_block e.kind then Filled front else Woken) e ∷ es)
+  ends : (notify : N → N) (front : T) (e : Entry T N) (es : List (Entry T N)) → is_waiting e.mark ≡ true → e.kind ≢ Stream
+      → IsWakeRound notify front (e ∷ es) (marked notify (if is_block e.kind then Filled front else Woken) e ∷ es)
       (if is_block e.kind then Some e.ticket else None)
-  ends tell front e es waits other = inl (record {
+  ends notify front e es waits other = inl (record {
     before = [];
     first = e;
     later = es;
@@ -47,36 +47,37 @@ module _ {T N : Type 0} where
   })
 
   -- a wake round follows its rule
-  pub is_wake_round : (tell : N → N) (front : T) (es : List (Entry T N)) → IsWakeRound tell front es (round tell front es) (round_fills es)
-  is_wake_round tell front [] = inr (record { passed = All-nil IsPassed; new_are = refl; fills = refl })
-  is_wake_round tell front (e ∷ es) = by_mark e.kind e.mark (is_wake_round tell front es)
+  pub is_wake_round : (notify : N → N) (front : T) (es : List (Entry T N))
+      → IsWakeRound notify front es (round notify front es) (round_fills es)
+  is_wake_round notify front [] = inr (record { passed = All-nil IsPassed; new_are = refl; fills = refl })
+  is_wake_round notify front (e ∷ es) = by_mark e.kind e.mark (is_wake_round notify front es)
     where
-      by_mark : (k : Kind) (mark : Mark T) → IsWakeRound tell front es (round tell front es) (round_fills es)
-          → IsWakeRound tell front (stands_as e k mark ∷ es) (round tell front (stands_as e k mark ∷ es))
+      by_mark : (k : Kind) (mark : Mark T) → IsWakeRound notify front es (round notify front es) (round_fills es)
+          → IsWakeRound notify front (stands_as e k mark ∷ es) (round notify front (stands_as e k mark ∷ es))
           (round_fills (stands_as e k mark ∷ es))
-      by_mark Block Waiting rest = ends tell front (stands_as e Block Waiting) es refl (λ is. (let none : ⊥ = cc in none))
-      by_mark Plain Waiting rest = ends tell front (stands_as e Plain Waiting) es refl (λ is. (let none : ⊥ = cc in none))
-      by_mark Stream Waiting rest = goes_past tell front (stands_as e Stream Waiting) es _ _ (λ is. refl) rest
-      by_mark Arm Waiting rest = ends tell front (stands_as e Arm Waiting) es refl (λ is. (let none : ⊥ = cc in none))
+      by_mark Block Waiting rest = ends notify front (stands_as e Block Waiting) es refl (λ is. (let none : ⊥ = cc in none))
+      by_mark Plain Waiting rest = ends notify front (stands_as e Plain Waiting) es refl (λ is. (let none : ⊥ = cc in none))
+      by_mark Stream Waiting rest = goes_past notify front (stands_as e Stream Waiting) es _ _ (λ is. refl) rest
+      by_mark Arm Waiting rest = ends notify front (stands_as e Arm Waiting) es refl (λ is. (let none : ⊥ = cc in none))
       by_mark k Woken rest =
-          goes_past tell front (stands_as e k Woken) es _ _ (λ is. absurd (let none : ⊥ = cc in none)) rest
+          goes_past notify front (stands_as e k Woken) es _ _ (λ is. absurd (let none : ⊥ = cc in none)) rest
       by_mark k (Filled held) rest =
-          goes_past tell front (stands_as e k (Filled held)) es _ _ (λ is. absurd (let none : ⊥ = cc in none)) rest
+          goes_past notify front (stands_as e k (Filled held)) es _ _ (λ is. absurd (let none : ⊥ = cc in none)) rest
 
   -- a round wakes those of these that wait, all streams, and goes on behind them
-  round_past : (tell : N → N) (front : T) (before rest : List (Entry T N)) → All IsPassed before
-      → (round tell front (before ++ rest) ≡ all_woken tell before ++ round tell front rest)
+  round_past : (notify : N → N) (front : T) (before rest : List (Entry T N)) → All IsPassed before
+      → (round notify front (before ++ rest) ≡ all_woken notify before ++ round notify front rest)
       × (round_fills (before ++ rest) ≡ round_fills rest)
-  round_past tell front [] rest passed = (refl, refl)
-  round_past tell front (e ∷ before) rest passed = by_mark e.kind e.mark (All-head IsPassed e before passed)
-      (round_past tell front before rest (All-tail IsPassed e before passed))
+  round_past notify front [] rest passed = (refl, refl)
+  round_past notify front (e ∷ before) rest passed = by_mark e.kind e.mark (All-head IsPassed e before passed)
+      (round_past notify front before rest (All-tail IsPassed e before passed))
     where
       Passes : List (Entry T N) → Type 0
       Passes es =
-          (round tell front (es ++ rest) ≡ all_woken tell es ++ round tell front rest) × (round_fills (es ++ rest) ≡ round_fills rest)
+          (round notify front (es ++ rest) ≡ all_woken notify es ++ round notify front rest) × (round_fills (es ++ rest) ≡ round_fills rest)
 
       by_mark : (k : Kind) (mark : Mark T) → (is_waiting mark ≡ true → k ≡ Stream) → Passes before → Passes (stands_as e k mark ∷ before)
-      by_mark Stream Waiting stream on = (ap (λ l. marked tell Woken (stands_as e Stream Waiting) ∷ l) on.0, on.1)
+      by_mark Stream Waiting stream on = (ap (λ l. marked notify Woken (stands_as e Stream Waiting) ∷ l) on.0, on.1)
       by_mark Block Waiting stream on = (let is = stream refl in absurd (let none : ⊥ = cc in none))
       by_mark Plain Waiting stream on = (let is = stream refl in absurd (let none : ⊥ = cc in none))
       by_mark Arm Waiting stream on = (let is = stream refl in absurd (let none : ⊥ = cc in none))
@@ -84,23 +85,23 @@ module _ {T N : Type 0} where
       by_mark k (Filled held) stream on = (ap (λ l. stands_as e k (Filled held) ∷ l) on.0, on.1)
 
   -- a round ends at a first entry that waits and is no stream
-  at_first : (tell : N → N) (front : T) (e : Entry T N) (later : List (Entry T N)) → is_waiting e.mark ≡ true → e.kind ≢ Stream
-      → (round tell front (e ∷ later) ≡ marked tell (if is_block e.kind then Filled front else Woken) e ∷ later)
+  at_first : (notify : N → N) (front : T) (e : Entry T N) (later : List (Entry T N)) → is_waiting e.mark ≡ true → e.kind ≢ Stream
+      → (round notify front (e ∷ later) ≡ marked notify (if is_block e.kind then Filled front else Woken) e ∷ later)
       × (round_fills (e ∷ later) ≡ (if is_block e.kind then Some e.ticket else None))
-  at_first tell front e later waits other = grind (arith, common_steps)
+  at_first notify front e later waits other = grind (arith, common_steps)
 
   -- what follows the rule is the wake round
-  pub only_wake_round : (tell : N → N) (front : T) (old new : List (Entry T N)) (filled : Option ℕ)
-      → IsWakeRound tell front old new filled → (new ≡ round tell front old) × (filled ≡ round_fills old)
-  only_wake_round tell front old new filled (inl one) =
-      let past = round_past tell front one.before (one.first ∷ one.later) one.passed in
-      let here = at_first tell front one.first one.later one.waits one.no_stream in (
-        one.new_are ∙ sym (ap (round tell front) one.old_are ∙ past.0 ∙ ap (λ l. all_woken tell one.before ++ l) here.0),
+  pub only_wake_round : (notify : N → N) (front : T) (old new : List (Entry T N)) (filled : Option ℕ)
+      → IsWakeRound notify front old new filled → (new ≡ round notify front old) × (filled ≡ round_fills old)
+  only_wake_round notify front old new filled (inl one) =
+      let past = round_past notify front one.before (one.first ∷ one.later) one.passed in
+      let here = at_first notify front one.first one.later one.waits one.no_stream in (
+        one.new_are ∙ sym (ap (round notify front) one.old_are ∙ past.0 ∙ ap (λ l. all_woken notify one.before ++ l) here.0),
         one.fills ∙ sym (ap round_fills one.old_are ∙ past.1 ∙ here.1),
       )
-  only_wake_round tell front old new filled (inr none) =
-      let past = round_past tell front old [] none.passed in
+  only_wake_round notify front old new filled (inr none) =
+      let past = round_past notify front old [] none.passed in
       let all = append-nil old in (
-        none.new_are ∙ sym (ap (round tell front) (sym all) ∙ past.0 ∙ append-nil (all_woken tell old)),
+        none.new_are ∙ sym (ap (round notify front) (sym all) ∙ past.0 ∙ append-nil (all_woken notify old)),
         none.fills ∙ sym (ap round_fills (sym all) ∙ past.1),
       )

@@ -2,8 +2,10 @@
 use Rattle.flume_model.proofs.Common.{◌≡◌, ℕ, ◌≤◌, Bool, true, false, not, ◌&&◌, if◌then◌else◌, List, [], ◌∷◌, ◌++◌, length, Some, refl}
 use Rattle.flume_model.proofs.Common.{sym, ◌∙◌, ◌⊎◌, inl, inr, ap, arith, min, eqb-true, and_parts, list_any-append, Channel}
 use Rattle.flume_model.proofs.Common.{channel, senders, receivers, senders_after, receivers_after, is_over, is_woken, some_wait, all_woken}
-use Rattle.flume_model.proofs.Common.{without_ticket, round, IsClosed, is_closed, line, boundary, boundary_after, capacity_after, blocked, Log, Opening, Change}
-use Rattle.flume_model.proofs.Common.{Queues, Blocks, Takes, Parks, Asks, Collects, Leaves, SenderLeaves, ReceiverLeaves, Resizes, change, LogEntry}
+use Rattle.flume_model.proofs.Common.{without_ticket, round, IsClosed, is_closed, line, boundary}
+use Rattle.flume_model.proofs.Common.{boundary_after, capacity_after, blocked, Log, Opening, Change}
+use Rattle.flume_model.proofs.Common.{Queues, Blocks, Takes, Parks, Asks, Collects, Leaves, SenderLeaves}
+use Rattle.flume_model.proofs.Common.{ReceiverLeaves, Resizes, change, LogEntry}
 use Rattle.flume_model.proofs.Common.{same_notice, entries_after, entries, IsRun, block_woken, WokenBlockWhileClosed, Reply, Step}
 use Rattle.flume_model.proofs.Common.{common_steps}
 use Rattle.flume_model.proofs.LawfulReplyLemmas.{Fits}
@@ -55,7 +57,8 @@ module _ {T : Type 0} where
       → closes ≡ (not (is_closed c.senders c.receivers) && is_closed (senders_after c.senders done) (receivers_after c.receivers done))
       → (block_woken c.entries ≡ true → ClosedWhole c.senders c.receivers (length c.line) c.boundary)
       → block_woken (entries_after c.queue closes c.entries done) ≡ true
-      → ClosedWhole (senders_after c.senders done) (receivers_after c.receivers done) n (boundary_after (capacity_after c.capacity done) n c.boundary done)
+      → ClosedWhole (senders_after c.senders done) (receivers_after c.receivers done) n
+      (boundary_after (capacity_after c.capacity done) n c.boundary done)
   closed_by c closes (Queues m filled) n stood h long e before some =
       let was = before (round_for_push (λ es. block_woken es ≡ true → block_woken c.entries ≡ true) same_notice c.queue m c.entries
       (λ front. block_round front c.entries) some) in

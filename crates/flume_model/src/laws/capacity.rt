@@ -1,9 +1,9 @@
 //! Laws of a capacity that is set. These functions do nothing: each contract is a law.
-ghost use Rattle.std.specs.Prelude.{◌≡◌, ℕ, ◌≤◌, Some};
+ghost use Rattle.std.specs.Prelude.{◌≡◌, ◌↔◌, ℕ, ◌≤◌, Some, None};
 ghost use Rattle.flume_model.specs.Log.{Log, Opening};
 ghost use Rattle.flume_model.specs.Line.{capacity, boundary};
 ghost use Rattle.flume_model.specs.Replies.{IsRun};
-ghost use Rattle.flume_model.specs.Resized.{set_to, IsResized, queued_at, StaysBoundedOrNot};
+ghost use Rattle.flume_model.specs.Resized.{set_to, IsResized, queued_at};
 
 use std::alloc::Allocator;
 
@@ -31,5 +31,5 @@ pub fn lowering_keeps_what_raising_let_in<T, A: Allocator>()
 /// In each run, a channel stays bounded or unbounded, as it was opened.
 pub fn a_channel_stays_bounded_or_unbounded<T, A: Allocator>()
     ensures law { (opening : Opening) (log : Log T A)
-        → IsRun opening log → StaysBoundedOrNot opening log }
+        → IsRun opening log → (capacity opening log ≡ None) ↔ (opening.capacity ≡ None) }
 {}

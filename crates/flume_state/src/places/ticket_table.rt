@@ -11,8 +11,7 @@ use std::marker::Model;
 
 type Table<A> = HashMap<u64, u32, BuildHasherDefault<TicketHasher>, A>;
 
-/// The table is boxed, since most channels have none, and in place it takes some 85 bytes more,
-/// which costs time if a channel is made, used once and dropped.
+/// The table is boxed: most channels have none, and in place it takes some 85 bytes more.
 #[derive(Drop)]
 pub(super) struct TicketTable<A: Allocator> {
     made: Option<Box<Table<A>, A>>,
@@ -34,7 +33,6 @@ impl<A: Allocator> Model for TicketTable<A> {
 
 impl<A: Allocator + Copy> TicketTable<A> {
     /// No ticket has a place.
-    ///
     /// ```
     /// let mut places = TicketTable::new(alloc);
     /// let _ = places.insert(7, 2);       // Ok(())
@@ -106,8 +104,6 @@ impl<A: Allocator + Copy> TicketTable<A> {
         }
     }
 }
-
-// Out of line, since most channels have no table.
 
 #[tactic(auto, using(crate::proofs::TableLemmas::get_of_table))]
 #[inline(never)]

@@ -19,7 +19,8 @@ loop-ticket-preserved g c =
     let named = c.in-Some.ensures.named in
     let left = left_signal old c.next_due.new.self c.in-Some.ticket named in
     record {
-      from_here = λ new end rest. c.loop-ticket.invariant.from_here new end (Rung named left.1 (c.ring_for.ensures.rung left.0 left.2) rest);
+      from_here = λ new end rest. c.loop-ticket.invariant.from_here new end
+          (Rung named left.1 (c.ring_for.ensures.rung left.0 left.2) rest);
       represents = λ o log h. c.in-Some.ensures.represents o log (c.loop-ticket.invariant.represents o log h);
       before = still_due_before c.args.chan.now old c.next_due.new.self c.in-Some.ticket named c.loop-ticket.invariant.before;
     }

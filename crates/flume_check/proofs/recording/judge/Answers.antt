@@ -30,7 +30,8 @@ returns-in-Explained g c =
           → JudgesCalls A c.args.shows input script.text.items script.status)
           (λ script shown input rest begins reads. shown_or_open A input script.text.items script.status c.args.shows c.if-shows.true
           (shown input rest begins
-          (subst (λ l. IsRecordingText (lines input) c.args.capacity l (names_of c.args.names.now)) (sym c.deref-in-Explained.ensures.value) reads)))
+          (subst (λ l. IsRecordingText (lines input) c.args.capacity l (names_of c.args.names.now))
+          (sym c.deref-in-Explained.ensures.value) reads)))
           c.show.ensures.shows;
     }
 

@@ -12,7 +12,8 @@ returns-in-Right g c =
     let input = c.args.input.now in
     let begins : lines input ≡ c.first_line.result.now ∷ reads.rest =
     reads.lines_are ∙ ap (λ line. line ∷ reads.rest) (sym (c.first_line.ensures.value reads.first reads.rest reads.lines_are)) in
-    let named = subst (λ names. IsRecordingText (lines input) c.in-Right.capacity c.in-Right.events.items (names_of names)) (sym c.deref.ensures.value) reads in
+    let named = subst (λ names. IsRecordingText (lines input) c.in-Right.capacity c.in-Right.events.items (names_of names))
+    (sym c.deref.ensures.value) reads in
     record {
       judges = IfOk-weaker c.judge.result
           (λ script. (input : List ℕ) (rest : List (List ℕ)) → lines input ≡ c.first_line.result.now ∷ rest

@@ -2,11 +2,12 @@
 use Rattle.std.proofs.Common.{◌≡◌, ◌+◌, refl, sym, ap, subst, take, reverse, [], ◌∷◌, rules}
 use Rattle.std.proofs.lemmas.List.{take_all}
 use Rattle.std.specs.BTreeMap.{is_at}
+use Rattle.std.specs.List.{AllZip}
 use Rattle.std.specs.Map.{lookup}
 use Rattle.std.specs.Ordering.{nat_cmp}
 use Rattle.flume_model.specs.Log.{opens}
 use Rattle.flume_history.proofs.FollowLemmas.{with_next}
-use Rattle.flume_concurrent.specs.Descriptions.{DescribeEach, BreaksAt}
+use Rattle.flume_concurrent.specs.Descriptions.{Describes, BreaksAt}
 use Rattle.flume_concurrent.proofs.UniqueLemmas.{beginning, breaks_at, explained}
 use Rattle.flume_concurrent.proofs.explanation.check_explanation.Goals as goal
 
@@ -42,7 +43,7 @@ loop-place-preserved g c =
     record {
       followed = (
         on.own ∷ so_far.0,
-        subst (λ l. DescribeEach g.T.PartialEq.eq l (on.own ∷ so_far.0)) (sym next) (on.describes, so_far.1),
+        subst (λ l. AllZip (Describes g.T.PartialEq.eq) l (on.own ∷ so_far.0)) (sym next) (on.describes, so_far.1),
         record { calls = (on.fits, so_far.2.calls); run = on.leads.represents.run },
         on.leads,
       );
@@ -53,7 +54,7 @@ returns-clause-explains g c = λ known.
     let so_far = c.loop-place.invariant.followed in
     let all : take c.loop-place.place c.args.items.now ≡ c.args.items.now =
     take_all c.loop-place.place c.args.items.now (search rules) in (
-      λ e. (so_far.0, subst (λ l. DescribeEach g.T.PartialEq.eq (reverse l) so_far.0) all so_far.1, so_far.2),
+      λ e. (so_far.0, subst (λ l. AllZip (Describes g.T.PartialEq.eq) (reverse l) so_far.0) all so_far.1, so_far.2),
       λ whole. refl,
     )
 
@@ -63,7 +64,7 @@ returns-clause-explained g c = λ e.
     let all : take c.loop-place.place c.args.items.now ≡ c.args.items.now =
     take_all c.loop-place.place c.args.items.now (search rules) in
     explained g.T.PartialEq.eq (opens c.args.capacity 1) c.args.items.now
-    (so_far.0, subst (λ l. DescribeEach g.T.PartialEq.eq (reverse l) so_far.0) all so_far.1, so_far.2)
+    (so_far.0, subst (λ l. AllZip (Describes g.T.PartialEq.eq) (reverse l) so_far.0) all so_far.1, so_far.2)
 
 pub loop-place-init : goal.loop-place-init
 loop-place-init g c = record {

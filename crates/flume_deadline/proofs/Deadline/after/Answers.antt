@@ -22,7 +22,8 @@ module _ {E : Type 0} where
   after_of (Err e) timeout Never fits unread sum no_sum = absurd (let same = unread refl in let none : ⊥ = cc in none)
   after_of (Err e) timeout (At at) fits unread sum no_sum = absurd (let same = unread refl in let none : ⊥ = cc in none)
   after_of (Ok time) timeout Never fits unread sum no_sum = (instant_nanos time, fits, λ within. sum time refl within)
-  after_of (Ok time) timeout (At at) fits unread sum no_sum = go (cases_order (instant_nanos time + as_nanos timeout) (2 ^ 63 * 1_000_000_000))
+  after_of (Ok time) timeout (At at) fits unread sum no_sum =
+      go (cases_order (instant_nanos time + as_nanos timeout) (2 ^ 63 * 1_000_000_000))
     where
       never : (FitsClock (instant_nanos time + as_nanos timeout) → ⊥) → IsAfter timeout (At at)
       never not = absurd (let same = no_sum time refl not in let none : ⊥ = cc in none)

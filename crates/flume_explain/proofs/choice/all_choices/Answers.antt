@@ -15,7 +15,8 @@ loop-call-preserved g c = record {
 pub returns-then-is_ok-clause-steps : goal.returns-then-is_ok-clause-steps
 returns-then-is_ok-clause-steps g c =
     steps_all c.args.own c.loop-call.choices.items c.push_steps.new.choices.items c.push.new.self.items c.args.calls.now TakeEvent
-    (subst (AreStepsBut c.args.own c.loop-call.choices.items) (take_all c.loop-call.call-index c.args.calls.now c.loop-call-test.false) c.loop-call.invariant.steps)
+    (subst (AreStepsBut c.args.own c.loop-call.choices.items) (take_all c.loop-call.call-index c.args.calls.now c.loop-call-test.false)
+    c.loop-call.invariant.steps)
     (c.push_steps.ensures.steps c.if-push_steps.true)
     (c.push.ensures.items ∙ ap (λ b. if b then c.push_steps.new.choices.items ++ TakeEvent ∷ [] else c.push_steps.new.choices.items)
     (sym c.is_ok.ensures.value ∙ c.if-is_ok.true))

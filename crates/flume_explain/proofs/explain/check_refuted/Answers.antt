@@ -10,4 +10,5 @@ returns-clause-breaks g c = λ count is.
 
 pub returns-clause-unexplained : goal.returns-clause-unexplained
 returns-clause-unexplained g c = λ count is.
-    unexplained_on g.T.PartialEq.eq (opens c.args.capacity 1) c.args.events.now (c.args.place + 1) count (c.find_break.ensures.unexplained count is)
+    unexplained_on g.T.PartialEq.eq (opens c.args.capacity 1) c.args.events.now (c.args.place + 1) count
+    (c.find_break.ensures.unexplained count is)

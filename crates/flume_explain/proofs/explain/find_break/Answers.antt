@@ -44,5 +44,6 @@ returns-in-GaveUp-clause-unexplained g c = λ count is.
     let current = c.in-GaveUp.ensures.gave_up c.in-GaveUp.place refl in
     subst (UnexplainedAfter g.T.PartialEq.eq (opens c.args.capacity 1) c.args.events.now) (sym same)
     (subst (UnexplainedAfter g.T.PartialEq.eq (opens c.args.capacity 1) c.args.events.now) (sym c.max.ensures)
-    (unexplained_after g.T.PartialEq.eq (opens c.args.capacity 1) c.args.events.now c.loop-low.low c.clamp-count.result c.in-GaveUp.place (omega arith) (omega arith)
+    (unexplained_after g.T.PartialEq.eq (opens c.args.capacity 1) c.args.events.now c.loop-low.low c.clamp-count.result c.in-GaveUp.place
+    (omega arith) (omega arith)
     c.loop-low.invariant.explained current c.requires))

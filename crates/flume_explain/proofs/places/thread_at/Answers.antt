@@ -1,7 +1,7 @@
 -- No event is past the last.
 use Rattle.std.proofs.Common.{sym, ap}
 use Rattle.std.specs.Option.{option_map}
-use Rattle.flume_explain.specs.Configurations.{thread_of}
+use Rattle.flume_concurrent.specs.Explanations.{thread_of}
 use Rattle.flume_explain.proofs.EventsAtLemmas.{event_past}
 use Rattle.flume_explain.proofs.places.thread_at.Goals as goal
 

@@ -16,11 +16,13 @@ loop-init g c = record {
   goes_on = λ is. c.enter-advance.ensures.goes_on is c.args.start (record {
     way = subst (λ l. AreOnTheWay g.T.PartialEq.eq c.args.events.now (IsDead g.T.PartialEq.eq c.args.events.now 0 c.args.start) l
         (IsDead g.T.PartialEq.eq c.args.events.now 0 c.args.start)) (sym c.new-search.ensures.no_frames) (λ gone. gone);
-    dead = subst (All (λ d. IsDead g.T.PartialEq.eq c.args.events.now d.place d.configuration)) (sym c.new-search.ensures.none_dead) (All-nil _);
+    dead = subst (All (λ d. IsDead g.T.PartialEq.eq c.args.events.now d.place d.configuration)) (sym c.new-search.ensures.none_dead)
+        (All-nil _);
   });
   nowhere = λ is. absurd (c.enter-advance.ensures.not_nowhere is);
   reached = λ is o r. c.enter-advance.ensures.reached is o (record {
-    frames = subst (All (λ f. IsReached g.T.PartialEq.eq c.args.events.now o f.place f.configuration)) (sym c.new-search.ensures.no_frames) (All-nil _);
+    frames = subst (All (λ f. IsReached g.T.PartialEq.eq c.args.events.now o f.place f.configuration))
+        (sym c.new-search.ensures.no_frames) (All-nil _);
     furthest = subst (AreExplained g.T.PartialEq.eq c.args.events.now o) (sym c.new-search.ensures.furthest_zero)
         (reached_explained g.T.PartialEq.eq c.args.events.now o 0 c.args.start (omega arith) r);
   }) r;

@@ -1,4 +1,4 @@
--- Where the round ends at a receive, those behind it stay as they are.
+-- If the round ends at a receive, those behind it stay as they are.
 use Rattle.std.proofs.Common.{◌<◌, arith, length, rules}
 use Rattle.std.proofs.Math.Seq.{drop-cons}
 use Rattle.flume_explain.proofs.RoundLemmas.{ends_here, meets_block, meets_plain}

@@ -33,8 +33,10 @@ returns-else-eq g c =
     record {
       lawful = λ reply is. absurd (let none : ⊥ = cc in none);
       not_lawful = λ is o log h reply lawful recorded.
-          no_other (Equals g.T.PartialEq.eq) (goes_by_messages g.T.PartialEq.eq) o log c.args.recorded.now c.args.step.now c.step-reply.result
+          no_other (Equals g.T.PartialEq.eq) (goes_by_messages g.T.PartialEq.eq) o log c.args.recorded.now c.args.step.now
+          c.step-reply.result
           h.run (c.step-reply.ensures.step o log h).run.0 (not_want c.step-reply.result c.in_default-reply.not-NoMemory)
           (λ also. let off : c.eq.result ≡ false = c.if-eq.false in let on = also in let none : ⊥ = cc in none) reply lawful
-          (λ w. not_want c.args.recorded.now c.in_default.not-NoMemory ((same_want g.T.PartialEq.eq c.args.recorded.now reply recorded).1 w)) recorded;
+          (λ w. not_want c.args.recorded.now c.in_default.not-NoMemory
+          ((same_want g.T.PartialEq.eq c.args.recorded.now reply recorded).1 w)) recorded;
     }

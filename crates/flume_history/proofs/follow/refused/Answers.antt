@@ -9,7 +9,8 @@ use Rattle.flume_history.specs.HandedIn.{handed_in}
 use Rattle.flume_history.proofs.FollowLemmas.{want_stays, no_other_want}
 use Rattle.flume_history.proofs.WantingLemmas.{want_allowed}
 use Rattle.flume_history.proofs.follow.refused.Goals as goal
-use Rattle.flume_history.proofs.follow.refused.Goals.{else-no_memory_is_lawful-via-then-no_memory_is_lawful+else-eq, else-no_memory_is_lawful-via-else-no_memory_is_lawful}
+use Rattle.flume_history.proofs.follow.refused.Goals.{else-no_memory_is_lawful-via-then-no_memory_is_lawful+else-eq}
+use Rattle.flume_history.proofs.follow.refused.Goals.{else-no_memory_is_lawful-via-else-no_memory_is_lawful}
 
 pub returns-then-eq-clause-lawful : goal.returns-then-eq-clause-lawful
 returns-then-eq-clause-lawful g c reply is o log h =

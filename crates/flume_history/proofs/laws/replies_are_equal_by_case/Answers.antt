@@ -15,7 +15,8 @@ module _ (g : given.Over) where
   -- the comparison of this reply with any other is the one of the table
   abbrev IsTabled : Reply g.row.T.Denot g.row.A.Denot → Type 0
   IsTabled recorded = (reply : Reply g.row.T.Denot g.row.A.Denot)
-      → (replies.ghosts g.row.T g.row.A g.A.Allocator g.A.Allocator-dict g.T.PartialEq g.T.PartialEq-dict g.A.Destruct-dict).eq recorded reply
+      → (replies.ghosts g.row.T g.row.A g.A.Allocator g.A.Allocator-dict g.T.PartialEq g.T.PartialEq-dict g.A.Destruct-dict).eq recorded
+      reply
       ≡ equal_replies g.T.PartialEq.eq recorded reply
 
   sent : (x : Option ℕ) → IsTabled (Sent x)

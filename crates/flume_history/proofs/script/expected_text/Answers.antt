@@ -9,7 +9,8 @@ use Rattle.flume_history.specs.HandedIn.{handed_in}
 use Rattle.flume_history.proofs.FollowLemmas.{not_want, want_stays}
 use Rattle.flume_history.proofs.LawfulLemmas.{shows_own, shows_both}
 use Rattle.flume_history.proofs.WantingLemmas.{want_allowed}
-use Rattle.flume_history.proofs.script.expected_text.Goals.{else-may_refuse-via-then-may_refuse+else-eq, else-may_refuse-via-else-may_refuse}
+use Rattle.flume_history.proofs.script.expected_text.Goals.{else-may_refuse-via-then-may_refuse+else-eq}
+use Rattle.flume_history.proofs.script.expected_text.Goals.{else-may_refuse-via-else-may_refuse}
 use Rattle.flume_history.proofs.script.expected_text.Given as given
 use Rattle.flume_history.proofs.script.expected_text.Goals as goal
 
@@ -40,15 +41,18 @@ returns-then-not-may_refuse g c = record {
 unwanted : (g : given.Over) (c : goal.After-drop-refusal-2 g) → c.in_ok-refusal.refusal.items ≡ c.args.said.now → ⊥
 unwanted g c e = elim c.else-may_refuse.branch [
   | else-may_refuse-via-then-may_refuse+else-eq w ↦ search rules
-  | else-may_refuse-via-else-may_refuse w ↦ let no = c.if-not-may_refuse.false in let yes = w.if-may_refuse.false in let none : ⊥ = cc in none
+  | else-may_refuse-via-else-may_refuse w ↦ let no = c.if-not-may_refuse.false in let yes = w.if-may_refuse.false in let none : ⊥ = cc in
+      none
 ]
 
 pub returns : goal.returns
 returns g c = record {
   lawful = tt;
   not_lawful = λ o log h.
-      let want_is = c.in_ok-refusal.ensures.value ∙ ap (λ back. reply_text {A = g.row.A.Denot} (NoMemory back)) c.handed_in.ensures.message in
-      let expected_is : c.extend_from_slice-2.new.self.items ≡ reply_text c.step-reply.result ++ codes " or " ++ c.in_ok-refusal.refusal.items = search rules in
+      let want_is = c.in_ok-refusal.ensures.value
+      ∙ ap (λ back. reply_text {A = g.row.A.Denot} (NoMemory back)) c.handed_in.ensures.message in
+      let expected_is : c.extend_from_slice-2.new.self.items ≡ reply_text c.step-reply.result ++ codes " or "
+      ++ c.in_ok-refusal.refusal.items = search rules in
       shows_both h c.args.step c.step-reply.result (c.step-reply.ensures.step o log h).run.0
       (not_want c.step-reply.result c.in_default.not-NoMemory) c.in_ok-refusal.refusal.items c.extend_from_slice-2.new.self.items
       c.args.said.now want_is expected_is (c.no_memory_is_lawful-may_refuse.ensures.wants.0 c.if-not-may_refuse.false)

@@ -18,7 +18,8 @@ returns-in_err-message g c =
     let parts = c.in-Some.ensures in
     rw c.from_residual.ensures (record {
       value = λ answer h.
-          let got = cut_answer c.in-Some.word.now c.in-Some.digits.now parts.first (λ list e. c.requires.no_list list (parts.parts ∙ e)) answer
+          let got = cut_answer c.in-Some.word.now c.in-Some.digits.now parts.first (λ list e. c.requires.no_list list (parts.parts
+          ∙ e)) answer
           (subst (λ t. IsAnswerText t answer) parts.parts h) in
           c.in_err-message.ensures.value got.0 got.3 got.2;
     })

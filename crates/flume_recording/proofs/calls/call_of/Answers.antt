@@ -9,6 +9,7 @@ returns-in_err-number_of-in-Some c =
     let parts = c.in-Some.ensures in
     rw c.from_residual.ensures (record {
       value = λ call h.
-          let cut = cut_worded c.in-Some.word.now c.in-Some.digits.now (call_word call) (call_number call) parts.first (word_without call) (sym parts.parts ∙ h.0) in
+          let cut = cut_worded c.in-Some.word.now c.in-Some.digits.now (call_word call) (call_number call) parts.first (word_without call)
+          (sym parts.parts ∙ h.0) in
           c.in_err-number_of-in-Some.ensures.value cut.0 (subst FitsIfAny cut.1 h.1) cut.3;
     })

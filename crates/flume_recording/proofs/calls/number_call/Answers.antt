@@ -9,7 +9,8 @@ use Rattle.flume_recording.proofs.calls.number_call.Goals as goal
 pub returns-else-is_text-5 : goal.returns-else-is_text-5
 returns-else-is_text-5 c = record {
   value = λ call h.
-      let cut = cut_worded c.args.word.now (decimal c.args.number) (call_word call) (call_number call) c.requires.no_space (word_without call) h.0 in
+      let cut = cut_worded c.args.word.now (decimal c.args.number) (call_word call) (call_number call) c.requires.no_space
+      (word_without call) h.0 in
       (elim call as (λ k. call_number k ≡ Some cut.0 → c.args.word.now ≡ call_word k → ⊥) [
         | Send n ↦ λ some same. (let e : c.args.word.now ≡ codes "send" = same in search rules)
         | SendTimeout n ↦ λ some same. (let e : c.args.word.now ≡ codes "send_timeout" = same in search rules)

@@ -11,8 +11,8 @@ returns-then-text-eq48 c = record {
 
 pub returns : goal.returns
 returns c = record {
-  value = printed c.args.text.now c.value_of.result (λ long front. (elim c.else-text-gt1.branch [
+  value = printed c.args.text.now c.number.result (λ long front. (elim c.else-text-gt1.branch [
     | else-text-gt1-via-then-text-gt1+else-text-eq48 w ↦ search rules
     | else-text-gt1-via-else-text-gt1 w ↦ search rules
-  ])) c.value_of.ensures.value;
+  ])) c.number.ensures.value;
 }

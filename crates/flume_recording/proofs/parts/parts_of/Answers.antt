@@ -51,7 +51,8 @@ returns-then-is_empty-2 c =
 pub returns : goal.returns
 returns c =
     let parts = c.in_ok-front.ensures in
-    let after = strip_prefix_is Decides-eqb c.in_ok-front.rest.now (codes "-> ") (Some c.in_ok-answer.answer) c.in_ok-answer.ensures.cases in
+    let after = strip_prefix_is Decides-eqb c.in_ok-front.rest.now (codes "-> ") (Some c.in_ok-answer.answer) c.in_ok-answer.ensures.cases
+    in
     record {
       value = arrow c.args.line.now c.in_ok-front.front.now c.in_ok-front.rest.now c.in_ok-answer.answer.now
           parts.parts parts.first c.in_default.ensures.none after (search rules);

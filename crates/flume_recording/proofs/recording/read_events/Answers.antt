@@ -10,19 +10,12 @@ loop-line-init g c =
     rw no_event (none_read c.args.rest.now (names_of c.new-threads.result.names.items) (asking_in c.new-threads.result.asking.items)
     (ap names_of c.new-threads.ensures.names) (λ t. ap (λ asking. asking_in asking t) c.new-threads.ensures.asking))
 
-pub returns-in-Err-clause-value : goal.returns-in-Err-clause-value
-returns-in-Err-clause-value g c =
+pub returns-in-Err-clause-wrong : goal.returns-in-Err-clause-wrong
+returns-in-Err-clause-wrong g c =
     let line = c.in-Some.ensures in
     let reason = rw c.in-Err.is at c.in_ok-event.ensures.wrong in
-    (up_to c.in-Some.line.now c.in-Some.later.now c.in-Err.fault c.len-place.result c.loop-line.invariant line.first line.shorter
-    reason (search rules)).0
-
-pub returns-in-Err-clause-within : goal.returns-in-Err-clause-within
-returns-in-Err-clause-within g c =
-    let line = c.in-Some.ensures in
-    let reason = rw c.in-Err.is at c.in_ok-event.ensures.wrong in
-    (up_to c.in-Some.line.now c.in-Some.later.now c.in-Err.fault c.len-place.result c.loop-line.invariant line.first line.shorter
-    reason (search rules)).1
+    up_to c.in-Some.line.now c.in-Some.later.now c.in-Err.fault c.len.result c.loop-line.invariant line.first line.shorter
+    reason (search rules)
 
 pub loop-line-preserved : goal.loop-line-preserved
 loop-line-preserved g c =

@@ -6,7 +6,8 @@ use Rattle.flume_recording.proofs.recording.read_events.Given as goal
 
 -- the lines so far are the events
 abbrev pub invariant-loop-line : goal.invariant-loop-line
-invariant-loop-line g l = ReadEvents l.initial.rest l.rest l.events.items (names_of l.threads.names.items) (asking_in l.threads.asking.items)
+invariant-loop-line g l = ReadEvents l.initial.rest l.rest l.events.items (names_of l.threads.names.items)
+    (asking_in l.threads.asking.items)
 
 abbrev pub decreases-loop-line : goal.decreases-loop-line
 decreases-loop-line g l = length l.rest

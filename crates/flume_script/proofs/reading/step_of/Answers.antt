@@ -1,22 +1,23 @@
--- What follows the first space of a step's line is a number of 64 bits, or the name of a kind.
-use Rattle.std.proofs.Common.{◌≡◌, codes, rules}
-use Rattle.flume_model.specs.declared.step.Step.TheVariants.{TrySend, Send, PollSend, WithdrawSend, Recv, Poll, Withdraw, SetCapacity}
-use Rattle.flume_script.proofs.ScriptWordLemmas.{IsParted, parted}
+-- A line with a space is a step's word, or a word and a number of 64 bits.
+use Rattle.std.proofs.Common.{refl}
+use Rattle.flume_script.proofs.ScriptWordLemmas.{is_step, no_step}
 use Rattle.flume_script.proofs.reading.step_of.Goals as goal
 
-pub returns-in_err-number-in-Some-2 : goal.returns-in_err-number-in-Some-2
-returns-in_err-number-in-Some-2 c =
-    let some = c.in-Some in
-    rw c.from_residual.ensures (record {
-      value = λ step h. (elim step as (λ s. IsParted some.word.now some.kind.now s → ⊥) [
-        | TrySend n ↦ λ call. c.in_err-number-in-Some-2.ensures.value (call.1, call.2)
-        | Send n ↦ λ call. c.in_err-number-in-Some-2.ensures.value (call.1, call.2)
-        | PollSend n ↦ λ call. c.in_err-number-in-Some-2.ensures.value (call.1, call.2)
-        | WithdrawSend n ↦ λ call. c.in_err-number-in-Some-2.ensures.value (call.1, call.2)
-        | Poll n ↦ λ call. c.in_err-number-in-Some-2.ensures.value (call.1, call.2)
-        | Withdraw n ↦ λ call. c.in_err-number-in-Some-2.ensures.value (call.1, call.2)
-        | SetCapacity n ↦ λ call. c.in_err-number-in-Some-2.ensures.value (call.1, call.2)
-        | Recv kind ↦ λ call. (let same : some.word.now ≡ codes "recv" = call.0 in search rules)
-        | _ ↦ λ call. let e = call.0 in cc
-      ]) (parted some.word.now some.kind.now some.ensures.first step (rw (← some.ensures.parts) h));
+pub returns-in_err-number : goal.returns-in_err-number
+returns-in_err-number c =
+    let cut = c.in_ok-word in
+    let other = no_step c.args.line.now cut.word.now cut.digits.now cut.ensures.parts cut.ensures.first in
+    rw c.from_residual-in_err-number.ensures (record {
+      value = other (λ step e. c.in_default.ensures.none step e refl) (λ step n e number. c.in_err-number.ensures.value number);
     })
+
+pub returns : goal.returns
+returns c =
+    let cut = c.in_ok-word in
+    let other = no_step c.args.line.now cut.word.now cut.digits.now cut.ensures.parts cut.ensures.first in
+    record {
+      value = is_step c.args.line.now cut.word.now cut.digits.now c.step_with_number.result cut.ensures.parts c.in_ok-number.ensures.value.0
+          (λ none. other (λ step e. c.in_default.ensures.none step e refl)
+          (λ step n e number. c.step_with_number.ensures.none step n e none))
+          (rw (← c.in_ok-number.ensures.value.1) c.step_with_number.ensures.some);
+    }

@@ -5,4 +5,10 @@ use Rattle.flume.proofs.gate.GateRecvGate.again.Goals as goal
 
 pub returns-clause-does : goal.returns-clause-does
 returns-clause-does g c =
-    let turn = c.call_cold.ensures in record { same = refl; answers = turn.answers.0; not_refused = turn.answers.1; made = step_made turn.made }
+    let turn = c.call_cold.ensures in record {
+      same = refl;
+      answers = turn.answers.0;
+      not_refused = turn.answers.1;
+      made =
+          step_made turn.made;
+    }

@@ -8,4 +8,10 @@ call_step-requires g c = record { one_step = λ old new answer does. one_step do
 
 pub returns-clause-does : goal.returns-clause-does
 returns-clause-does g c =
-    let turn = c.call_step.ensures in record { same = refl; answers = turn.answers.0; not_refused = turn.answers.1; made = step_made turn.made }
+    let turn = c.call_step.ensures in record {
+      same = refl;
+      answers = turn.answers.0;
+      not_refused = turn.answers.1;
+      made =
+          step_made turn.made;
+    }

@@ -16,7 +16,8 @@ returns-clause-appended g c =
 
 pub returns-clause-made : goal.returns-clause-made
 returns-clause-made g c some =
-    takes_from (ap (λ list. list.items) c.replace-list.ensures.value) c.try_receive_answer.ensures.turn (first_made c.call_many-list.ensures.made)
+    takes_from (ap (λ list. list.items) c.replace-list.ensures.value) c.try_receive_answer.ensures.turn
+    (first_made c.call_many-list.ensures.made)
 
 pub returns-clause-no_memory : goal.returns-clause-no_memory
 returns-clause-no_memory g c said =

@@ -32,7 +32,8 @@ returns-in-Err-Disconnected-clause-error g c =
     let is : c.args.messages.items ≡ c.in-Some.first ∷ c.pop_front.new.self.items = search rules in
     let over = c.in-Err-Disconnected.is ∙ ap (λ error. Err error) c.in-Err-Disconnected.field-0-is in
     first_back c.send_to_full_until.ensures.made is over
-    (ap (λ list. Disconnected list) (sym (c.into_vec-in-Err-Disconnected.ensures.items ∙ c.push_front_reserved-in-Err-Disconnected.ensures.items)))
+    (ap (λ list. Disconnected list) (sym (c.into_vec-in-Err-Disconnected.ensures.items
+    ∙ c.push_front_reserved-in-Err-Disconnected.ensures.items)))
 
 pub returns-in-Err-NoMemory-clause-error : goal.returns-in-Err-NoMemory-clause-error
 returns-in-Err-NoMemory-clause-error g c =

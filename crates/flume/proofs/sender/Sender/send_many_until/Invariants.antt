@@ -8,7 +8,8 @@ use Rattle.flume.proofs.sender.Sender.send_many_until.Given as goal
 abbrev pub invariant-loop-deadline : goal.invariant-loop-deadline
 invariant-loop-deadline g l = record {
   last : IsEndOf l.fn.messages.items l.left.items;
-  goes_on : (result : Result (Unit {0}) (SendTimeoutError (List g.row.T.Denot))) → SendsManyUpTo g.row.A.Denot l.fn.deadline l.left.items result
+  goes_on : (result : Result (Unit {0}) (SendTimeoutError (List g.row.T.Denot)))
+      → SendsManyUpTo g.row.A.Denot l.fn.deadline l.left.items result
       → SendsManyUpTo g.row.A.Denot l.fn.deadline l.fn.messages.items result;
 }
 

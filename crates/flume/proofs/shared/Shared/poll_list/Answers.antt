@@ -1,4 +1,4 @@
--- The first that found no room is polled, and where it comes back it is that one.
+-- The first that found no room is polled, and if it comes back it is that one.
 use Rattle.std.proofs.Common.{refl}
 use Rattle.flume.proofs.ManySendLemmas.{first_poll_leaves}
 use Rattle.flume.proofs.SendPollLemmas.{error_holds_message}

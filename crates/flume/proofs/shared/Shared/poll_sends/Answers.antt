@@ -1,4 +1,4 @@
--- Where the send waits or fails the list is as it was; else the poll goes on to the list.
+-- If the send waits or fails the list is as it was; else the poll goes on to the list.
 use Rattle.std.proofs.Common.{◌≢◌, Some, Ok}
 use Rattle.flume.proofs.ManySendLemmas.{sent_poll_leaves, unsent_poll_leaves}
 use Rattle.flume.proofs.SendPollLemmas.{finished_is_ok, error_holds_message}

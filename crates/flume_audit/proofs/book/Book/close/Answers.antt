@@ -12,7 +12,8 @@ returns-clause-differs g c number =
     elim c.match-differs.branch [
       | in-Some w ↦
           rw (← c.self.view_is) (this_differs _ c.self.inside.history.items c.args.seats.items law
-          c.deref.ensures.value c.deref-2.ensures.value all c.match-differs.closed w.in-Some.number number w.closed-is w.in-Some.ensures.some)
+          c.deref.ensures.value c.deref-2.ensures.value all c.match-differs.closed w.in-Some.number number w.closed-is
+          w.in-Some.ensures.some)
       | in-None w ↦
           rw (← c.self.view_is) (none_differs _ c.self.inside.history.items c.args.seats.items law
           c.deref.ensures.value c.deref-2.ensures.value all c.match-differs.closed number w.closed-is w.in-None.ensures.none)

@@ -27,7 +27,8 @@ loop-taken-preserved g c =
     let made = received got.step got.becomes_due got.possible_reply got.space got.unchanged in
     let less = one_less c.loop-taken.chan c.try_recv.new.self some c.try_recv.ensures.got in
     record {
-      took = takes_one _ {after = c.push_reserved.new.self.items} c.in-Got.message c.loop-taken.invariant.took made c.push_reserved.ensures.items;
+      took = takes_one _ {after = c.push_reserved.new.self.items} c.in-Got.message c.loop-taken.invariant.took made
+          c.push_reserved.ensures.items;
       remaining = omega arith;
       len = omega arith;
       capacity = cc;

@@ -9,7 +9,12 @@ invariant_of-self g c =
     let reachable = c.self.invariant.reachable in
     let made = g.C.Turn.leads c.args.turn _ _ _ c.apply-answer.ensures.does in
     record {
-      reachable = (reachable.0, log_after reachable.1 made.0, c.fire_due.ensures.represents reachable.0 _ (led_log made.1 reachable.0 reachable.1 reachable.2));
+      reachable = (
+        reachable.0,
+        log_after reachable.1 made.0,
+        c.fire_due.ensures.represents reachable.0 _
+            (led_log made.1 reachable.0 reachable.1 reachable.2),
+      );
       sends = c.fire_due.ensures.sends;
       receivers = c.fire_due.ensures.receivers;
     }

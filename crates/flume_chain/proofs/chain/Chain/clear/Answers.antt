@@ -7,4 +7,5 @@ invariant_of-self g c = new_kept c.clear.new.self c.clear.ensures.size c.clear.e
 
 pub returns-then-self-gt0-clause-room : goal.returns-then-self-gt0-clause-room
 returns-then-self-gt0-clause-room g c =
-    cleared_room c.self.inside.links c.clear.new.self c.self.inside.len c.args.self.now c.self.invariant c.clear.ensures.capacity c.self.view_is
+    cleared_room c.self.inside.links c.clear.new.self c.self.inside.len c.args.self.now c.self.invariant c.clear.ensures.capacity
+    c.self.view_is

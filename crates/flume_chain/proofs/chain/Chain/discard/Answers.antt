@@ -6,7 +6,8 @@ use Rattle.flume_chain.proofs.chain.Chain.discard.Goals as goal
 
 pub returns-in_default-clause-removed : goal.returns-in_default-clause-removed
 returns-in_default-clause-removed g c =
-    let none = missing _ _ c.in_default.ensures.value ∙ found_kept c.self.inside.links c.self.inside.len c.args.self.now c.self.invariant c.args.place c.self.view_is in
+    let none = missing _ _ c.in_default.ensures.value
+    ∙ found_kept c.self.inside.links c.self.inside.len c.args.self.now c.self.invariant c.args.place c.self.view_is in
     sym (without_missing c.args.self.now.items c.args.place (sym none))
 
 pub unlink_and_free-requires-clause-next : goal.unlink_and_free-requires-clause-next

@@ -2,7 +2,8 @@ use Rattle.std.proofs.Common.{◌+◌, ◌++◌, ◌∷◌, length, length-appen
 use Rattle.std.proofs.lemmas.Result.{IfOk-weaker}
 use Rattle.flume_chain.specs.ChainState.{HoldsItems, table_of, found, put_before, put_before_or_last}
 use Rattle.flume_chain.proofs.TableLemmas.{item, put_before_none}
-use Rattle.flume_chain.proofs.ChainListLemmas.{standing, missing, same_kept, same_chain, kept_items, found_split, neighbours, place_below, put_items, walked}
+use Rattle.flume_chain.proofs.ChainListLemmas.{standing, missing, same_kept, same_chain, kept_items}
+use Rattle.flume_chain.proofs.ChainListLemmas.{found_split, neighbours, place_below, put_items, walked}
 use Rattle.flume_chain.proofs.PutLemmas.{insert_holds, free_stands, put_room, not_full, on_err}
 use Rattle.flume_chain.proofs.ChainLemmas.{length-put_before}
 use Rattle.flume_chain.proofs.chain.Chain.insert_before.Goals as goal
@@ -12,7 +13,8 @@ pub returns-in_default-clause-inserted : goal.returns-in_default-clause-inserted
 returns-in_default-clause-inserted g c =
     let k = c.self.invariant in
     let items = kept_items c.self.inside.links c.self.inside.len c.args.self.now k c.self.view_is in
-    let none = ap (λ l. found l c.in-Some.next) (sym items) ∙ sym (missing _ _ c.in_default.ensures.value ∙ k.holds.elements c.in-Some.next) in
+    let none = ap (λ l. found l c.in-Some.next) (sym items) ∙ sym (missing _ _ c.in_default.ensures.value
+    ∙ k.holds.elements c.in-Some.next) in
     rw c.in-Some.is
     (IfOk-weaker c.push_back-in_default.result _ _
     (λ place pushed. pushed ∙ sym (put_before_none c.args.self.now.items c.in-Some.next (item place c.args.element) none))
@@ -49,7 +51,8 @@ returns-in_err-place-clause-succeeds g c = λ some.
 pub returns-in_err-place-clause-unchanged : goal.returns-in_err-place-clause-unchanged
 returns-in_err-place-clause-unchanged g c =
     on_err c.from_residual.result _
-    (same_chain c.self.inside.links c.link_before.new.self c.self.inside.len c.args.self.now c.in_err-place.ensures.unchanged c.self.view_is)
+    (same_chain c.self.inside.links c.link_before.new.self c.self.inside.len c.args.self.now c.in_err-place.ensures.unchanged
+    c.self.view_is)
 
 pub invariant_of-self-2 : goal.invariant_of-self-2
 invariant_of-self-2 g c =

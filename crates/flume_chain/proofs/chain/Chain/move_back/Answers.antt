@@ -8,12 +8,14 @@ use Rattle.flume_chain.proofs.chain.Chain.move_back.Goals as goal
 
 pub returns-in_default-clause-found : goal.returns-in_default-clause-found
 returns-in_default-clause-found g c =
-    let none = missing _ _ c.in_default.ensures.value ∙ found_kept c.self.inside.links c.self.inside.len c.args.self.now c.self.invariant c.args.place c.self.view_is in
+    let none = missing _ _ c.in_default.ensures.value
+    ∙ found_kept c.self.inside.links c.self.inside.len c.args.self.now c.self.invariant c.args.place c.self.view_is in
     (λ e. absurd cc, λ some. absurd (let no = subst IsSome (sym none) some in cc))
 
 pub returns-in_default-clause-moved : goal.returns-in_default-clause-moved
 returns-in_default-clause-moved g c =
-    let none = missing _ _ c.in_default.ensures.value ∙ found_kept c.self.inside.links c.self.inside.len c.args.self.now c.self.invariant c.args.place c.self.view_is in
+    let none = missing _ _ c.in_default.ensures.value
+    ∙ found_kept c.self.inside.links c.self.inside.len c.args.self.now c.self.invariant c.args.place c.self.view_is in
     sym (moved_back_missing c.args.self.now.items c.args.place (sym none))
 
 pub unlink-requires-clause-next : goal.unlink-requires-clause-next

@@ -40,13 +40,15 @@ returns-in_err-element-clause-taken g c =
     let none = sym (kept_items c.self.inside.links c.self.inside.len c.args.self.now k c.self.view_is)
     ∙ none_begun c.self.inside.links k.items k.frees k.holds c.in_err-element.ensures.none in
     ap (λ x. x.items)
-    (same_chain c.self.inside.links c.take_first.new.self c.self.inside.len c.args.self.now c.in_err-element.ensures.unchanged c.self.view_is)
+    (same_chain c.self.inside.links c.take_first.new.self c.self.inside.len c.args.self.now c.in_err-element.ensures.unchanged
+    c.self.view_is)
     ∙ none ∙ sym (ap behind_first none)
 
 pub returns-in_err-element-clause-unchanged : goal.returns-in_err-element-clause-unchanged
 returns-in_err-element-clause-unchanged g c =
     rw c.from_residual.ensures
-    (same_chain c.self.inside.links c.take_first.new.self c.self.inside.len c.args.self.now c.in_err-element.ensures.unchanged c.self.view_is)
+    (same_chain c.self.inside.links c.take_first.new.self c.self.inside.len c.args.self.now c.in_err-element.ensures.unchanged
+    c.self.view_is)
 
 pub invariant_of-self-2 : goal.invariant_of-self-2
 invariant_of-self-2 g c =

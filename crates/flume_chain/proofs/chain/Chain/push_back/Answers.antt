@@ -26,12 +26,14 @@ returns-in_err-place-clause-succeeds g c = λ some.
 pub returns-in_err-place-clause-unchanged : goal.returns-in_err-place-clause-unchanged
 returns-in_err-place-clause-unchanged g c =
     on_err c.from_residual.result _
-    (same_chain c.self.inside.links c.link_before.new.self c.self.inside.len c.args.self.now c.in_err-place.ensures.unchanged c.self.view_is)
+    (same_chain c.self.inside.links c.link_before.new.self c.self.inside.len c.args.self.now c.in_err-place.ensures.unchanged
+    c.self.view_is)
 
 pub invariant_of-self-2 : goal.invariant_of-self-2
 invariant_of-self-2 g c =
     let k = c.self.invariant in
-    let h = push_holds c.self.inside.links c.link_before.new.self k.items k.frees c.in_ok-place.place c.args.element k.holds c.in_ok-place.ensures.put in
+    let h = push_holds c.self.inside.links c.link_before.new.self k.items k.frees c.in_ok-place.place c.args.element k.holds
+    c.in_ok-place.ensures.put in
     record {
       items = k.items ++ item c.in_ok-place.place c.args.element ∷ [];
       frees = h.frees;
@@ -42,17 +44,20 @@ invariant_of-self-2 g c =
 pub returns-clause-pushed : goal.returns-clause-pushed
 returns-clause-pushed g c =
     let k = c.self.invariant in
-    let h = push_holds c.self.inside.links c.link_before.new.self k.items k.frees c.in_ok-place.place c.args.element k.holds c.in_ok-place.ensures.put in
+    let h = push_holds c.self.inside.links c.link_before.new.self k.items k.frees c.in_ok-place.place c.args.element k.holds
+    c.in_ok-place.ensures.put in
     let n = length-append k.items (item c.in_ok-place.place c.args.element ∷ []) in
     let m = k.count in
-    walked c.link_before.new.self (c.self.inside.len + 1) (k.items ++ item c.in_ok-place.place c.args.element ∷ []) h.frees h.holds (omega arith)
+    walked c.link_before.new.self (c.self.inside.len + 1) (k.items ++ item c.in_ok-place.place c.args.element ∷ []) h.frees h.holds
+    (omega arith)
     ∙ ap (λ l. l ++ item c.in_ok-place.place c.args.element ∷ [])
     (kept_items c.self.inside.links c.self.inside.len c.args.self.now k c.self.view_is)
 
 pub returns-clause-fresh : goal.returns-clause-fresh
 returns-clause-fresh g c =
     let k = c.self.invariant in
-    let h = push_holds c.self.inside.links c.link_before.new.self k.items k.frees c.in_ok-place.place c.args.element k.holds c.in_ok-place.ensures.put in
+    let h = push_holds c.self.inside.links c.link_before.new.self k.items k.frees c.in_ok-place.place c.args.element k.holds
+    c.in_ok-place.ensures.put in
     ap (λ l. found l c.in_ok-place.place)
     (sym (append-nil k.items ∙ kept_items c.self.inside.links c.self.inside.len c.args.self.now k c.self.view_is))
     ∙ h.fresh
@@ -60,7 +65,8 @@ returns-clause-fresh g c =
 pub returns-clause-fits : goal.returns-clause-fits
 returns-clause-fits g c =
     let k = c.self.invariant in
-    let h = push_holds c.self.inside.links c.link_before.new.self k.items k.frees c.in_ok-place.place c.args.element k.holds c.in_ok-place.ensures.put in
+    let h = push_holds c.self.inside.links c.link_before.new.self k.items k.frees c.in_ok-place.place c.args.element k.holds
+    c.in_ok-place.ensures.put in
     let new = ap length (returns-clause-pushed g c) in
     let split = length-append c.args.self.now.items (item c.in_ok-place.place c.args.element ∷ []) in
     let same = length-append k.items (item c.in_ok-place.place c.args.element ∷ []) in

@@ -41,4 +41,5 @@ returns-clause-found g c =
 pub returns-clause-taken : goal.returns-clause-taken
 returns-clause-taken g c =
     left_items c.self.inside.links c.take.new.self c.self.inside.len c.args.place c.in-Some.element c.self.invariant
-    c.in-Some.ensures.element c.take.ensures.taken c.unlink_and_free.new.self c.unlink_and_free.ensures.linked c.args.self.now c.self.view_is
+    c.in-Some.ensures.element c.take.ensures.taken c.unlink_and_free.new.self c.unlink_and_free.ensures.linked c.args.self.now
+    c.self.view_is

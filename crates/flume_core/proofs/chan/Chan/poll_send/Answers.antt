@@ -26,7 +26,7 @@ returns-in-Some-false-clause-step g c o log h =
     closed_where _ _ (search rules) in
     taken_back o log _ c.args.self.now _ c.args.ticket c.take_back.result h waiting
     (λ m closed is. rw is refl) (λ m closed is blocked_ closed_is. rw is (blocked_, closed_at_log h shut, closed_is ∙ eq-eqb _ _ shut))
-    c.take_back.ensures.returned c.take_back.ensures.absent c.take_back.ensures.possible_reply
+    c.take_back.ensures.returned c.take_back.ensures.absent c.take_back.ensures.no_ticket_or_returned
 
 pub returns-in-Some-false-2-clause-step : goal.returns-in-Some-false-2-clause-step
 returns-in-Some-false-2-clause-step g c o log h =
@@ -49,4 +49,4 @@ returns-in-Some-false-2-clause-becomes_due g c = λ reachable.
 pub returns-in-Some-false-clause-becomes_due : goal.returns-in-Some-false-clause-becomes_due
 returns-in-Some-false-clause-becomes_due g c = λ reachable.
     given_back c.args.self.now _ _ c.take_back.result c.args.ticket (λ t. refl) c.take_back.ensures.returned
-    c.take_back.ensures.unchanged c.take_back.ensures.possible_reply
+    c.take_back.ensures.unchanged c.take_back.ensures.no_ticket_or_returned

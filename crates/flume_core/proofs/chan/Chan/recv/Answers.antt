@@ -13,7 +13,8 @@ returns-in_default-clause-step g c o log h =
     recv_as_try o log c.args.kind c.try_recv.result _ (c.try_recv.ensures.step o log h) c.in_default.not-Empty
 
 pub returns-in_default-clause-possible_reply : goal.returns-in_default-clause-possible_reply
-returns-in_default-clause-possible_reply g c = recv_comes c.args.kind c.try_recv.result c.try_recv.ensures.possible_reply c.in_default.not-Empty
+returns-in_default-clause-possible_reply g c =
+    recv_comes c.args.kind c.try_recv.result c.try_recv.ensures.possible_reply c.in_default.not-Empty
 
 pub returns-clause-step : goal.returns-clause-step
 returns-clause-step g c o log h =

@@ -15,7 +15,8 @@ returns-in_default-clause-step g c o log h =
     send_as_try o log c.args.message c.try_send.result _ (c.try_send.ensures.step o log h) c.in_default.not-Full
 
 pub returns-in_default-clause-possible_reply : goal.returns-in_default-clause-possible_reply
-returns-in_default-clause-possible_reply g c = send_comes c.args.message c.try_send.result c.try_send.ensures.possible_reply c.in_default.not-Full
+returns-in_default-clause-possible_reply g c =
+    send_comes c.args.message c.try_send.result c.try_send.ensures.possible_reply c.in_default.not-Full
 
 pub returns-in_default-clause-closed : goal.returns-in_default-clause-closed
 returns-in_default-clause-closed g c = c.try_send.ensures.closed
@@ -42,7 +43,8 @@ returns-in_default-clause-becomes_due g c = λ reachable.
 
 pub returns-clause-becomes_due : goal.returns-clause-becomes_due
 returns-clause-becomes_due g c = λ reachable.
-    blocks_due c.args.self.now _ _ _ (record { ticket = c.args.self.now.next; message = c.args.message }) c.args.signal c.block.new.self.space
+    blocks_due c.args.self.now _ _ _ (record { ticket = c.args.self.now.next; message = c.args.message }) c.args.signal
+    c.block.new.self.space
     (λ t. refl) reachable (search rules)
 
 pub returns-in-Err-clause-step : goal.returns-in-Err-clause-step

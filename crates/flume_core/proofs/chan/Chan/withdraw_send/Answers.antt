@@ -19,7 +19,7 @@ returns-in-Some-false-clause-step g c o log h =
     let waiting = waits o log c.args.self.now c.args.ticket h cc in
     taken_back o log _ c.args.self.now _ c.args.ticket c.take_back.result h waiting
     (λ m closed is. rw is refl) (λ m closed is blocked_ closed_is. rw is (blocked_, closed_is ∙ closed_as o log _ h))
-    c.take_back.ensures.returned c.take_back.ensures.absent c.take_back.ensures.possible_reply
+    c.take_back.ensures.returned c.take_back.ensures.absent c.take_back.ensures.no_ticket_or_returned
 
 pub returns-in-None-clause-becomes_due : goal.returns-in-None-clause-becomes_due
 returns-in-None-clause-becomes_due g c = λ reachable. unchanged _ _ _ _ (λ t. refl) (search rules)
@@ -31,4 +31,4 @@ returns-in-Some-true-clause-becomes_due g c = λ reachable.
 pub returns-in-Some-false-clause-becomes_due : goal.returns-in-Some-false-clause-becomes_due
 returns-in-Some-false-clause-becomes_due g c = λ reachable.
     given_back c.args.self.now _ _ c.take_back.result c.args.ticket (λ t. refl) c.take_back.ensures.returned
-    c.take_back.ensures.unchanged c.take_back.ensures.possible_reply
+    c.take_back.ensures.unchanged c.take_back.ensures.no_ticket_or_returned

@@ -37,11 +37,13 @@ returns-then-is_same-clause-same g c = λ e.
 pub returns-in-Some-calls_with-clause-leads : goal.returns-in-Some-calls_with-clause-leads
 returns-in-Some-calls_with-clause-leads g c = λ new e.
     let same : c.with_calls.result ≡ new = cc in
-    let calls : c.in-Some-calls_with.calls.items ≡ calls_with_progress c.args.one.place (progress_of c.stage_after-stage.result) c.args.self.now.calls =
+    let calls : c.in-Some-calls_with.calls.items ≡ calls_with_progress c.args.one.place
+    (progress_of c.stage_after-stage.result) c.args.self.now.calls =
     c.in-Some-calls_with.ensures.calls_with_progress
     ∙ ap (λ (p : Progress). calls_with_progress c.args.one.place p c.args.self.now.calls) c.progress_of-progress.ensures.progress in
     let so : left_with c.args.self.now c.args.one (progress_of c.stage_after-stage.result) c.make.new.self ≡ new =
-    ap (λ (l : List OpenCall). let d : State = record c.make.new.self { calls = l } in d) (sym calls) ∙ sym c.with_calls.ensures.calls ∙ same in
+    ap (λ (l : List OpenCall). let d : State = record c.make.new.self { calls = l } in d) (sym calls) ∙ sym c.with_calls.ensures.calls
+    ∙ same in
     subst (λ (d : State). CallLeadsTo g.T.PartialEq.eq c.args.events.now c.args.self.now (option_copied c.args.recorded) c.args.one
     c.args.call.now c.args.mv false d) so
     (leads g.T.PartialEq.eq c.args.events.now c.args.self.now (option_copied c.args.recorded) c.args.one c.args.call.now c.args.mv
@@ -53,8 +55,11 @@ returns-in-Some-calls_with-clause-leads g c = λ new e.
 pub returns-in-Some-calls_with-clause-reaches : goal.returns-in-Some-calls_with-clause-reaches
 returns-in-Some-calls_with-clause-reaches g c = λ new e place.
     let reply_by_place : c.in-Some-make.reply_by_place ≡ (outcome c.args.mv c.args.one.place c.args.self.now).0 =
-    ap (λ (x : PlaceReply × State). x.0) (c.in-Some-make.ensures.outcome ∙ ap (outcome c.args.mv c.args.one.place) c.in-Some.ensures.same) in
-    move_reaches g.T.PartialEq.eq c.args.events.now place c.args.self.now (option_copied c.args.recorded) c.args.one c.args.call.now c.args.mv
+    ap (λ (x : PlaceReply × State). x.0) (c.in-Some-make.ensures.outcome
+    ∙ ap (outcome c.args.mv c.args.one.place) c.in-Some.ensures.same) in
+    move_reaches g.T.PartialEq.eq c.args.events.now place c.args.self.now (option_copied c.args.recorded) c.args.one c.args.call.now
+    c.args.mv
     0 c.in-Some-reply_to.reply new
-    (subst (λ (x : PlaceReply). Corresponds c.args.events.now 0 c.args.self.now.queue x c.in-Some-reply_to.reply) reply_by_place c.in-Some-reply_to.ensures.corresponds)
+    (subst (λ (x : PlaceReply). Corresponds c.args.events.now 0 c.args.self.now.queue x c.in-Some-reply_to.reply) reply_by_place
+    c.in-Some-reply_to.ensures.corresponds)
     (returns-in-Some-calls_with-clause-leads g c new e)

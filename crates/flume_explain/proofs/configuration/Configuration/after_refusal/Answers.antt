@@ -18,7 +18,8 @@ returns-then-not-may_refuse-clause-nowhere g c = λ events e.
 
 pub returns-then-is_wrong-clause-nowhere : goal.returns-then-is_wrong-clause-nowhere
 returns-then-is_wrong-clause-nowhere g c = λ events e.
-    refusal_wrong g.T.PartialEq.eq events c.args.self.now (option_copied c.args.recorded) c.args.one c.args.call.now c.args.mv c.stage.result
+    refusal_wrong g.T.PartialEq.eq events c.args.self.now (option_copied c.args.recorded) c.args.one c.args.call.now c.args.mv
+    c.stage.result
     c.stage_after-stage.result c.stage.ensures.stage c.stage_after-stage.ensures.stage (sym c.is_wrong.ensures.wrong ∙ c.if-is_wrong.true)
 
 pub returns-then-eq-clause-same : goal.returns-then-eq-clause-same
@@ -34,9 +35,11 @@ returns-in-Some-clause-leads g c = λ events new e.
     let so : with_progress c.args.one.place (progress_of c.stage_after-stage.result) c.args.self.now ≡ new =
     ap (λ (p : Progress). with_progress c.args.one.place p c.args.self.now) (sym c.progress_of-progress.ensures.progress)
     ∙ sym c.in-Some.ensures.calls_with_progress ∙ same in
-    subst (λ (d : State). CallLeadsTo g.T.PartialEq.eq events c.args.self.now (option_copied c.args.recorded) c.args.one c.args.call.now c.args.mv
+    subst (λ (d : State). CallLeadsTo g.T.PartialEq.eq events c.args.self.now (option_copied c.args.recorded) c.args.one c.args.call.now
+    c.args.mv
     true d) so
-    (refusal_leads g.T.PartialEq.eq events c.args.self.now (option_copied c.args.recorded) c.args.one c.args.call.now c.args.mv c.stage.result
+    (refusal_leads g.T.PartialEq.eq events c.args.self.now (option_copied c.args.recorded) c.args.one c.args.call.now c.args.mv
+    c.stage.result
     c.stage_after-stage.result c.stage.ensures.stage c.stage_after-stage.ensures.stage (sym c.is_wrong.ensures.wrong ∙ c.if-is_wrong.false))
 
 pub returns-in-Some-clause-reaches : goal.returns-in-Some-clause-reaches

@@ -10,7 +10,8 @@ use Rattle.flume_explain.proofs.configuration.Configuration.end_call.Goals as go
 pub returns : goal.returns
 returns g c =
     let kept : c.retain.new.self.items ≡ filter (λ (call : OpenCall). not (call.place == c.args.place)) c.self.inside.calls.items =
-    filter_same _ (λ (call : OpenCall). not (call.place == c.args.place)) _ (λ x b f k. (search rules, search rules)) _ _ c.retain.ensures.filtered in
+    filter_same _ (λ (call : OpenCall). not (call.place == c.args.place)) _
+    (λ x b f k. (search rules, search rules)) _ _ c.retain.ensures.filtered in
     let has : List OpenCall → State = (λ calls. record {
       capacity = c.self.inside.capacity;
       senders = c.self.inside.senders;

@@ -22,24 +22,30 @@ returns-in-Begins g c = record {
   fits = λ yes.
       fits_begins g.T.PartialEq.eq c.args.events.now c.args.place c.args.self.now c.in-Begins.thread c.in-Begins.call
       (event_read c.args.events.now c.args.place c.index-events-place.result c.requires c.index-events-place.is ∙ ap Some c.in-Begins.is)
-      (sym (c.call_of.ensures.own ∙ ap (call_by c.args.events.now c.in-Begins.thread) (c.as_slice.ensures.value ∙ ap (λ (s : State). s.calls) c.self.view_is))
+      (sym (c.call_of.ensures.own ∙ ap (call_by c.args.events.now c.in-Begins.thread) (c.as_slice.ensures.value
+      ∙ ap (λ (s : State). s.calls) c.self.view_is))
       ∙ no_call c.call_of.result c.is_none.result c.is_none.ensures yes);
   waits = λ no.
       let there = some_call c.call_of.result c.is_none.result c.is_none.ensures no in
       waits_begins g.T.PartialEq.eq c.args.events.now c.args.place c.args.self.now c.in-Begins.thread c.in-Begins.call there.0
       (event_read c.args.events.now c.args.place c.index-events-place.result c.requires c.index-events-place.is ∙ ap Some c.in-Begins.is)
-      (sym (c.call_of.ensures.own ∙ ap (call_by c.args.events.now c.in-Begins.thread) (c.as_slice.ensures.value ∙ ap (λ (s : State). s.calls) c.self.view_is)) ∙ there.1);
+      (sym (c.call_of.ensures.own ∙ ap (call_by c.args.events.now c.in-Begins.thread) (c.as_slice.ensures.value
+      ∙ ap (λ (s : State). s.calls) c.self.view_is)) ∙ there.1);
 }
 
 pub returns-in-Some : goal.returns-in-Some
 returns-in-Some g c = record {
-  fits = λ yes. fits_returns g.T.PartialEq.eq c.args.events.now c.args.place c.args.self.now c.in-Returns.thread c.in-Returns.answer c.in-Some.one
+  fits = λ yes. fits_returns g.T.PartialEq.eq c.args.events.now c.args.place c.args.self.now c.in-Returns.thread c.in-Returns.answer
+      c.in-Some.one
       (event_read c.args.events.now c.args.place c.index-events-place.result c.requires c.index-events-place.is ∙ ap Some c.in-Returns.is)
-      (sym (c.in-Some.ensures.own ∙ ap (call_by c.args.events.now c.in-Returns.thread) (c.as_slice-in-Returns.ensures.value ∙ ap (λ (s : State). s.calls) c.self.view_is)))
+      (sym (c.in-Some.ensures.own ∙ ap (call_by c.args.events.now c.in-Returns.thread) (c.as_slice-in-Returns.ensures.value
+      ∙ ap (λ (s : State). s.calls) c.self.view_is)))
       (sym c.may_return.ensures.may ∙ yes);
-  waits = λ no. waits_call g.T.PartialEq.eq c.args.events.now c.args.place c.args.self.now c.in-Returns.thread c.in-Returns.answer c.in-Some.one
+  waits = λ no. waits_call g.T.PartialEq.eq c.args.events.now c.args.place c.args.self.now c.in-Returns.thread c.in-Returns.answer
+      c.in-Some.one
       (event_read c.args.events.now c.args.place c.index-events-place.result c.requires c.index-events-place.is ∙ ap Some c.in-Returns.is)
-      (sym (c.in-Some.ensures.own ∙ ap (call_by c.args.events.now c.in-Returns.thread) (c.as_slice-in-Returns.ensures.value ∙ ap (λ (s : State). s.calls) c.self.view_is)))
+      (sym (c.in-Some.ensures.own ∙ ap (call_by c.args.events.now c.in-Returns.thread) (c.as_slice-in-Returns.ensures.value
+      ∙ ap (λ (s : State). s.calls) c.self.view_is)))
       (sym c.may_return.ensures.may ∙ no);
 }
 
@@ -48,5 +54,6 @@ returns-in-None g c = record {
   fits = λ yes. absurd (false≢true yes);
   waits = λ no. waits_none g.T.PartialEq.eq c.args.events.now c.args.place c.args.self.now c.in-Returns.thread c.in-Returns.answer
       (event_read c.args.events.now c.args.place c.index-events-place.result c.requires c.index-events-place.is ∙ ap Some c.in-Returns.is)
-      (sym (c.in-None.ensures.own ∙ ap (call_by c.args.events.now c.in-Returns.thread) (c.as_slice-in-Returns.ensures.value ∙ ap (λ (s : State). s.calls) c.self.view_is)));
+      (sym (c.in-None.ensures.own ∙ ap (call_by c.args.events.now c.in-Returns.thread) (c.as_slice-in-Returns.ensures.value
+      ∙ ap (λ (s : State). s.calls) c.self.view_is)));
 }

@@ -19,13 +19,16 @@ returns-in-Some g c = record {
   leads = λ done. subst (EventLeads g.T.PartialEq.eq c.args.events.now c.args.place c.args.self.now) (sym c.end_call.ensures.ended)
       (returns_leads g.T.PartialEq.eq c.args.events.now c.args.place c.args.self.now c.in-Returns.thread c.in-Returns.answer c.in-Some.one
       (event_read c.args.events.now c.args.place c.index-events-place.result c.requires c.index-events-place.is ∙ ap Some c.in-Returns.is)
-      (sym (c.in-Some.ensures.own ∙ ap (call_by c.args.events.now c.in-Returns.thread) (c.as_slice.ensures.value ∙ ap (λ (s : State). s.calls) c.self.view_is))));
+      (sym (c.in-Some.ensures.own ∙ ap (call_by c.args.events.now c.in-Returns.thread) (c.as_slice.ensures.value
+      ∙ ap (λ (s : State). s.calls) c.self.view_is))));
 }
 
 pub returns-in_default : goal.returns-in_default
 returns-in_default g c = record {
-  leads = λ done o past event agrees there fits. absurd (waits_none g.T.PartialEq.eq c.args.events.now c.args.place c.args.self.now c.in-Returns.thread
+  leads = λ done o past event agrees there fits. absurd
+      (waits_none g.T.PartialEq.eq c.args.events.now c.args.place c.args.self.now c.in-Returns.thread
       c.in-Returns.answer
       (event_read c.args.events.now c.args.place c.index-events-place.result c.requires c.index-events-place.is ∙ ap Some c.in-Returns.is)
-      (sym (c.in_default.ensures.own ∙ ap (call_by c.args.events.now c.in-Returns.thread) (c.as_slice.ensures.value ∙ ap (λ (s : State). s.calls) c.self.view_is))) o past event agrees there fits);
+      (sym (c.in_default.ensures.own ∙ ap (call_by c.args.events.now c.in-Returns.thread) (c.as_slice.ensures.value
+      ∙ ap (λ (s : State). s.calls) c.self.view_is))) o past event agrees there fits);
 }

@@ -18,7 +18,8 @@ returns-then-not-may_take_event-clause-dead g c = λ next is.
 
 pub loop-next-preserved : goal.loop-next-preserved
 loop-next-preserved g c = record {
-  dead = λ gone. c.loop-next.invariant.dead (event_dead g.T.PartialEq.eq c.args.events.now c.loop-next.next c.loop-next.self c.take_event.new.self
+  dead = λ gone. c.loop-next.invariant.dead
+      (event_dead g.T.PartialEq.eq c.args.events.now c.loop-next.next c.loop-next.self c.take_event.new.self
       c.loop-next-test.true c.in_default.ensures.event_only (c.take_event.ensures.leads c.if-not-take_event.false) gone);
   reaches = λ o r.
       event_reaches g.T.PartialEq.eq c.args.events.now c.loop-next.next c.loop-next.self c.take_event.new.self c.loop-next-test.true
@@ -35,9 +36,11 @@ pub returns-then-not-may_take_event-clause-explained_before : goal.returns-then-
 returns-then-not-may_take_event-clause-explained_before g c = λ next is o r.
     let at : next ≡ c.loop-next.next = cc in
     subst (AreExplained g.T.PartialEq.eq c.args.events.now o) (sym at)
-    (reached_explained g.T.PartialEq.eq c.args.events.now o c.loop-next.next c.loop-next.self (let within = c.loop-next-test.true in omega arith)
+    (reached_explained g.T.PartialEq.eq c.args.events.now o c.loop-next.next c.loop-next.self (let within = c.loop-next-test.true in
+    omega arith)
     (c.loop-next.invariant.reaches o r))
 
 pub returns-clause-all : goal.returns-clause-all
 returns-clause-all g c = λ is o r.
-    all_explained g.T.PartialEq.eq c.args.events.now o c.loop-next.next c.loop-next.self c.loop-next-test.false (c.loop-next.invariant.reaches o r)
+    all_explained g.T.PartialEq.eq c.args.events.now o c.loop-next.next c.loop-next.self c.loop-next-test.false
+    (c.loop-next.invariant.reaches o r)

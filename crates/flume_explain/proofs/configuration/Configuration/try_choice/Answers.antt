@@ -5,7 +5,8 @@ use Rattle.flume_explain.proofs.configuration.Configuration.try_choice.Goals as 
 
 pub returns-in-TakeEvent-clause-leads : goal.returns-in-TakeEvent-clause-leads
 returns-in-TakeEvent-clause-leads g c = λ new at is gone.
-    subst (IsSpent g.T.PartialEq.eq c.args.events.now c.args.place c.args.self.now) (sym c.in-TakeEvent.is) (c.try_event.ensures.leads new at is gone)
+    subst (IsSpent g.T.PartialEq.eq c.args.events.now c.args.place c.args.self.now) (sym c.in-TakeEvent.is)
+    (c.try_event.ensures.leads new at is gone)
 
 pub returns-in-TakeEvent-clause-spent : goal.returns-in-TakeEvent-clause-spent
 returns-in-TakeEvent-clause-spent g c = λ is.
@@ -13,7 +14,8 @@ returns-in-TakeEvent-clause-spent g c = λ is.
 
 pub returns-in-MakeStep-clause-leads : goal.returns-in-MakeStep-clause-leads
 returns-in-MakeStep-clause-leads g c = λ new at is gone.
-    subst (IsSpent g.T.PartialEq.eq c.args.events.now c.args.place c.args.self.now) (sym c.in-MakeStep.is) (c.try_step.ensures.leads new at is gone)
+    subst (IsSpent g.T.PartialEq.eq c.args.events.now c.args.place c.args.self.now) (sym c.in-MakeStep.is)
+    (c.try_step.ensures.leads new at is gone)
 
 pub returns-in-MakeStep-clause-spent : goal.returns-in-MakeStep-clause-spent
 returns-in-MakeStep-clause-spent g c = λ is.

@@ -14,7 +14,8 @@ returns-then-take_event-clause-leads g c = λ new at e gone.
     spent_event g.T.PartialEq.eq c.args.events.now c.args.place c.args.self.now c.take_event.new.self
     (λ o past event agrees there fits.
     c.take_event.ensures.leads c.if-take_event.true o past event
-    (subst (Agrees g.T.PartialEq.eq c.args.events.now o past (drop c.args.place c.args.events.now)) (sym c.in-Some.ensures.same) agrees) there fits)
+    (subst (Agrees g.T.PartialEq.eq c.args.events.now o past (drop c.args.place c.args.events.now)) (sym c.in-Some.ensures.same) agrees)
+    there fits)
     (subst (λ n. IsDead g.T.PartialEq.eq c.args.events.now n c.take_event.new.self) b
     (subst (λ s. IsDead g.T.PartialEq.eq c.args.events.now at s) a gone))
 
@@ -32,4 +33,5 @@ returns-then-take_event-clause-reaches g c = λ new at e.
     (c.may_take_event.ensures.fits c.if-not-may_take_event.false)
     (λ o past event agrees there fits.
     c.take_event.ensures.leads c.if-take_event.true o past event
-    (subst (Agrees g.T.PartialEq.eq c.args.events.now o past (drop c.args.place c.args.events.now)) (sym c.in-Some.ensures.same) agrees) there fits)))
+    (subst (Agrees g.T.PartialEq.eq c.args.events.now o past (drop c.args.place c.args.events.now)) (sym c.in-Some.ensures.same) agrees)
+    there fits)))

@@ -1,4 +1,4 @@
--- A step is spent where it leads to a dead configuration, to the same one, or nowhere.
+-- A step is spent if it leads to a dead configuration, to the same one, or nowhere.
 use Rattle.std.proofs.Common.{◌≡◌, refl, sym, ap, ◌∙◌, subst, drop, arith, Contains}
 use Rattle.flume_explain.specs.Configurations.{State}
 use Rattle.flume_explain.specs.Dead.{IsDead}

@@ -23,8 +23,10 @@ loop-choice-preserved g c = record {
   within = c.loop-choice.invariant.within;
   same_place = c.loop-choice.invariant.same_place;
   same = c.loop-choice.invariant.same;
-  cover = fewer g.T.PartialEq.eq c.args.events.now c.loop-choice.self.place c.loop-choice.self.configuration c.pop.new.self.items c.in-Some.choice
-      (subst (CoverNext g.T.PartialEq.eq c.args.events.now c.loop-choice.self.place c.loop-choice.self.configuration) c.in-Some.ensures.items
+  cover = fewer g.T.PartialEq.eq c.args.events.now c.loop-choice.self.place c.loop-choice.self.configuration c.pop.new.self.items
+      c.in-Some.choice
+      (subst (CoverNext g.T.PartialEq.eq c.args.events.now c.loop-choice.self.place c.loop-choice.self.configuration)
+      c.in-Some.ensures.items
       c.loop-choice.invariant.cover)
       (c.in-Spent.ensures.spent refl);
 }

@@ -6,7 +6,8 @@ use Rattle.flume_explain.proofs.replay.Replay.take_event.Goals as goal
 
 pub returns : goal.returns
 returns g c = record {
-  taken = λ taken. taken_event c.args.events.now c.args.self.now.place c.index-events-self.result c.args.self.now.items.items c.push.new.self.items
+  taken = λ taken. taken_event c.args.events.now c.args.self.now.place c.index-events-self.result c.args.self.now.items.items
+      c.push.new.self.items
       c.if-self-events.false c.index-events-self.is
       (c.in_ok-push.ensures.items ∙ ap (λ e. c.args.self.now.items.items ++ Happens e ∷ []) c.in_ok-event.ensures.same) taken;
 }

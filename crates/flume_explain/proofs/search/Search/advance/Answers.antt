@@ -1,4 +1,4 @@
--- Where the search goes on, it enters that configuration.
+-- If the search goes on, it enters that configuration.
 use Rattle.std.proofs.Common.{refl, sym, subst}
 use Rattle.flume_explain.specs.Reached.{AreExplained}
 use Rattle.flume_explain.proofs.search.Search.advance.Goals as goal

@@ -9,7 +9,8 @@ use Rattle.flume_explain.proofs.search.Search.enter.Goals as goal
 pub returns-in-Stops-clause-goes_on : goal.returns-in-Stops-clause-goes_on
 returns-in-Stops-clause-goes_on g c = λ e start s. c.stop.ensures.goes_on e start (record {
   way = way_from g.T.PartialEq.eq c.args.events.now (IsDead g.T.PartialEq.eq c.args.events.now 0 start) c.args.self.now.frames.items
-      (IsDead g.T.PartialEq.eq c.args.events.now c.args.place c.args.configuration) (IsDead g.T.PartialEq.eq c.args.events.now c.in-Stops.at c.take_forced.new.self)
+      (IsDead g.T.PartialEq.eq c.args.events.now c.args.place c.args.configuration)
+      (IsDead g.T.PartialEq.eq c.args.events.now c.in-Stops.at c.take_forced.new.self)
       (c.in-Stops.ensures.stops c.in-Stops.at c.in-Stops.own refl) s.way;
   dead = s.dead;
 })

@@ -8,8 +8,10 @@ use Rattle.flume_explain.proofs.search.Search.next.Given as goal
 -- frames that are gone were dead; the others are of reached configurations
 abbrev pub invariant-loop-frame : goal.invariant-loop-frame
 invariant-loop-frame g l = record {
-  searches : (start : State) → Searches g.T.PartialEq.eq l.events start (Unit {0}) l.fn.self → Searches g.T.PartialEq.eq l.events start (Unit {0}) l.self;
-  reached : (opening : Opening) → HasReached g.T.PartialEq.eq l.events opening l.fn.self → HasReached g.T.PartialEq.eq l.events opening l.self;
+  searches : (start : State) → Searches g.T.PartialEq.eq l.events start (Unit {0}) l.fn.self
+      → Searches g.T.PartialEq.eq l.events start (Unit {0}) l.self;
+  reached : (opening : Opening) → HasReached g.T.PartialEq.eq l.events opening l.fn.self
+      → HasReached g.T.PartialEq.eq l.events opening l.self;
   furthest : l.self.furthest ≡ l.fn.self.furthest;
 }
 

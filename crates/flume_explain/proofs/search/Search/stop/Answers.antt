@@ -25,11 +25,13 @@ returns-clause-goes_on g c = λ e start s. record {
   way = subst (λ l. AreOnTheWay g.T.PartialEq.eq c.args.events.now (IsDead g.T.PartialEq.eq c.args.events.now 0 start) l (Unit {0}))
       (sym (was_pushed _ _ _ _ c.push.ensures.items (c.is_err.ensures.negation ∙ ap not c.if-is_err.false)))
       (way_push g.T.PartialEq.eq c.args.events.now (IsDead g.T.PartialEq.eq c.args.events.now 0 start) c.args.self.now.frames.items
-      (record { configuration = c.args.configuration; place = c.args.place; choices = c.push_first.new.choices; depth = c.len.result }) (Unit {0}) s.way c.requires
+      (record { configuration = c.args.configuration; place = c.args.place; choices = c.push_first.new.choices; depth = c.len.result })
+      (Unit {0}) s.way c.requires
       (λ x. each_step g.T.PartialEq.eq c.args.events.now c.args.place c.args.configuration c.push_first.new.choices.items
       (c.push_first.ensures.old_choices c.if-not-push_first.false TakeEvent c.in-Some.ensures.event)
       (λ call other refused among. c.push_first.ensures.old_choices c.if-not-push_first.false (MakeStep call other refused)
-      (c.in-Some.ensures.steps call other refused among)) (λ t one own. call_by-found c.args.events.now t c.args.configuration.calls one own)));
+      (c.in-Some.ensures.steps call other refused among))
+      (λ t one own. call_by-found c.args.events.now t c.args.configuration.calls one own)));
   dead = s.dead;
 }
 
@@ -41,6 +43,7 @@ returns-clause-reached g c = λ e o s r. record {
   frames = subst (All (λ f. IsReached g.T.PartialEq.eq c.args.events.now o f.place f.configuration))
       (sym (was_pushed _ _ _ _ c.push.ensures.items (c.is_err.ensures.negation ∙ ap not c.if-is_err.false)))
       (All-push (λ f. IsReached g.T.PartialEq.eq c.args.events.now o f.place f.configuration) c.args.self.now.frames.items
-      (record { configuration = c.args.configuration; place = c.args.place; choices = c.push_first.new.choices; depth = c.len.result }) s.frames r);
+      (record { configuration = c.args.configuration; place = c.args.place; choices = c.push_first.new.choices; depth = c.len.result })
+      s.frames r);
   furthest = s.furthest;
 }

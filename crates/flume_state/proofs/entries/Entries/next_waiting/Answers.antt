@@ -7,7 +7,8 @@ use Rattle.flume_state.proofs.entries.Entries.next_waiting.Goals as goal
 pub returns-in_err-place : goal.returns-in_err-place
 returns-in_err-place g c = record {
   first = c.from_residual.ensures
-      ∙ sym (ap (option_map (λ e. (e.ticket, e.kind))) (ap first_waiting (sym c.self.view_is) ∙ nobody_waits _ _ _ _ c.self.invariant c.in_err-place.was));
+      ∙ sym (ap (option_map (λ e. (e.ticket, e.kind))) (ap first_waiting (sym c.self.view_is)
+      ∙ nobody_waits _ _ _ _ c.self.invariant c.in_err-place.was));
 }
 
 pub returns-in_err-ticket : goal.returns-in_err-ticket
@@ -22,5 +23,6 @@ returns g c =
     let ticket = read_value _ _ _ _ w.here c.in_ok-ticket.ensures.ticket in
     record {
       first = ap₂ (λ t p. Some (t, p.kind)) ticket value
-          ∙ sym (ap (option_map (λ e. (e.ticket, e.kind))) (ap first_waiting (sym c.self.view_is) ∙ waits_first _ _ _ _ _ c.self.invariant w));
+          ∙ sym (ap (option_map (λ e. (e.ticket, e.kind))) (ap first_waiting (sym c.self.view_is)
+          ∙ waits_first _ _ _ _ _ c.self.invariant w));
     }

@@ -2,7 +2,8 @@ use Rattle.std.proofs.Common.{ap, arith, refl, sym, ◌∙◌}
 use Rattle.flume_model.specs.Entries.{entry_of, is_woken}
 use Rattle.flume_state.specs.layout.EntryLayout.{after_asking}
 use Rattle.flume_state.specs.Receivers.{waits_on}
-use Rattle.flume_state.proofs.EntryAskLemmas.{again_entries, again_sorted, asks_entries, asks_filled, asks_none, asks_sorted, moved, woken_empty}
+use Rattle.flume_state.proofs.EntryAskLemmas.{again_entries, again_sorted, asks_entries, asks_filled}
+use Rattle.flume_state.proofs.EntryAskLemmas.{asks_none, asks_sorted, moved, woken_empty}
 use Rattle.flume_state.proofs.EntryPartLemmas.{read_some, read_value}
 use Rattle.flume_state.proofs.EntrySeatLemmas.{nobody, seated}
 use Rattle.flume_state.proofs.EntrySortedLemmas.{waits_few}
@@ -51,7 +52,14 @@ invariant_of-self-2 g c =
     let asked = c.ask_again.ensures.asked ∙ ap (λ p. after_asking p.mark c.args.signal p) value in
     let woken = ap (λ p. is_woken p.mark) (sym value) ∙ sym c.ask_again.ensures.woken ∙ c.if-not-ask_again.false in
     let back = moved _ _ _ _ _ _ q c.move_back.ensures.found c.move_back.ensures.moved in
-    rw (back, c.or-self-inside.ensures, c.or-self-inside-2.ensures, c.boundary_without.ensures.boundary, c.boundary_without-2.ensures.boundary, asked)
+    rw (
+      back,
+      c.or-self-inside.ensures,
+      c.or-self-inside-2.ensures,
+      c.boundary_without.ensures.boundary,
+      c.boundary_without-2.ensures.boundary,
+      asked,
+    )
     (again_sorted _ _ _ _ _ _ _ c.args.signal _ c.self.invariant q refl woken c.next-next.ensures.next)
 
 pub returns-clause-waits : goal.returns-clause-waits

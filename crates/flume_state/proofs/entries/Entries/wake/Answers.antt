@@ -3,7 +3,8 @@ use Rattle.flume_state.specs.Notices.{due_now}
 use Rattle.flume_model.specs.Entries.{waiting_count}
 use Rattle.flume_state.proofs.EntryWakeLemmas.{Woke, idle_by_count, idle_by_queue}
 use Rattle.flume_state.proofs.entries.Entries.wake.Goals as goal
-use Rattle.flume_state.proofs.entries.Entries.wake.Goals.{then-self-eq0-via-then-self-eq0, then-self-eq0-via-else-self-eq0+then-queued_len-eq0}
+use Rattle.flume_state.proofs.entries.Entries.wake.Goals.{then-self-eq0-via-then-self-eq0}
+use Rattle.flume_state.proofs.entries.Entries.wake.Goals.{then-self-eq0-via-else-self-eq0+then-queued_len-eq0}
 
 pub returns-then-self-eq0 : goal.returns-then-self-eq0
 returns-then-self-eq0 g c =

@@ -3,11 +3,13 @@ use Rattle.flume_state.proofs.line.Line.withdraw.Goals as goal
 
 pub returns-in_err-send_place-clause-absent : goal.returns-in_err-send_place-clause-absent
 returns-in_err-send_place-clause-absent g c =
-    rw c.from_residual.ensures (rw (← c.self.view_is) (none_under _ c.args.ticket _ c.in_err-send_place.ensures.absent c.self.invariant.held))
+    rw c.from_residual.ensures (rw (← c.self.view_is)
+    (none_under _ c.args.ticket _ c.in_err-send_place.ensures.absent c.self.invariant.held))
 
 pub returns-in_err-message-clause-absent : goal.returns-in_err-message-clause-absent
 returns-in_err-message-clause-absent g c =
-    absurd (is_blocked _ _ c.in_ok-send_place.send_place c.args.ticket c.in_ok-send_place.place c.self.invariant c.in_ok-send_place.ensures.found c.in_err-message.ensures.absent)
+    absurd (is_blocked _ _ c.in_ok-send_place.send_place c.args.ticket c.in_ok-send_place.place c.self.invariant
+    c.in_ok-send_place.ensures.found c.in_err-message.ensures.absent)
 
 pub invariant_of-self-2 : goal.invariant_of-self-2
 invariant_of-self-2 g c =

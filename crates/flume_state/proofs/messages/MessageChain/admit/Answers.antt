@@ -13,11 +13,14 @@ returns-in_err-send_place-clause-none_blocked g c =
     absurd (let no : ⊥ = cc in no)
 
 -- what is there once the first blocked one has no owner
-owner_leaves : (g : Over) (c : goal.After-self-2-1 g) → c.set_label.new.self.items ≡ with_label_at c.in_ok-place.place c.self.inside.chain.items None
+owner_leaves : (g : Over) (c : goal.After-self-2-1 g)
+    → c.set_label.new.self.items ≡ with_label_at c.in_ok-place.place c.self.inside.chain.items None
 owner_leaves g c = c.set_label.ensures.labelled ∙ ap (with_label_at c.in_ok-place.place c.self.inside.chain.items) c.none.ensures.none
 
-admits : (g : Over) (c : goal.After-self-2-1 g) → Admitted c.self.inside.chain.items c.set_label.new.self.items c.next-self-inside.result (c.self.inside.blocked_len - 1) (space_of c.self.inside.chain) c.in_ok-place.place c.args.self.now
-admits g c = admitted _ _ _ _ _ _ _ _ c.self.invariant c.self.view_is c.facts.ensures.apart c.in_ok-place.was (owner_leaves g c) c.next-self-inside.ensures.next
+admits : (g : Over) (c : goal.After-self-2-1 g) → Admitted c.self.inside.chain.items c.set_label.new.self.items c.next-self-inside.result
+    (c.self.inside.blocked_len - 1) (space_of c.self.inside.chain) c.in_ok-place.place c.args.self.now
+admits g c = admitted _ _ _ _ _ _ _ _ c.self.invariant c.self.view_is c.facts.ensures.apart c.in_ok-place.was
+    (owner_leaves g c) c.next-self-inside.ensures.next
 
 pub invariant_of-self : goal.invariant_of-self
 invariant_of-self g c = (admits g c).layout

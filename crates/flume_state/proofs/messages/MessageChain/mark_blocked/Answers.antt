@@ -16,7 +16,8 @@ loop-next-init g c =
 stepped : (g : Over) (c : goal.After-next-next g)
     → Stepped c.self.inside.chain.items c.in-Some.place c.args.sends.now c.loop-next.sends
     (with_all_due (under_tickets c.args.sends.now c.args.self.now.blocked) (live_sends c.args.sends.now))
-stepped g c = walk_steps c.self.inside.chain.items c.loop-next.next c.in-Some.place _ c.loop-next.sends _ c.facts.ensures.apart c.loop-next.invariant c.in-Some.is
+stepped g c = walk_steps c.self.inside.chain.items c.loop-next.next c.in-Some.place _ c.loop-next.sends _ c.facts.ensures.apart
+    c.loop-next.invariant c.in-Some.is
 
 pub loop-next-smaller : goal.loop-next-smaller
 loop-next-smaller g c =

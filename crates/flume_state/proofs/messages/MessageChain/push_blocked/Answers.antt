@@ -13,13 +13,15 @@ overflow_sub-self g c =
 
 pub invariant_of-self : goal.invariant_of-self
 invariant_of-self g c =
-    let r = blocks _ _ _ _ _ _ _ 0 _ c.queued_len-queued.result c.len.result _ _ c.self.invariant c.self.view_is c.in-Ok.ensures.pushed c.in-Some.ensures.place
+    let r = blocks _ _ _ _ _ _ _ 0 _ c.queued_len-queued.result c.len.result _ _ c.self.invariant c.self.view_is c.in-Ok.ensures.pushed
+    c.in-Some.ensures.place
     c.queued_len-queued.ensures.len c.len.ensures.len in
     rw c.or-self-inside.ensures r.layout
 
 pub returns-in-Ok-clause-pushed : goal.returns-in-Ok-clause-pushed
 returns-in-Ok-clause-pushed g c =
-    (blocks _ _ _ _ _ _ _ _ _ c.queued_len-queued.result c.len.result _ _ c.self.invariant c.self.view_is c.in-Ok.ensures.pushed c.in-Some.ensures.place
+    (blocks _ _ _ _ _ _ _ _ _ c.queued_len-queued.result c.len.result _ _ c.self.invariant c.self.view_is c.in-Ok.ensures.pushed
+    c.in-Some.ensures.place
     c.queued_len-queued.ensures.len c.len.ensures.len).view
 
 pub returns-in-Ok-clause-fresh : goal.returns-in-Ok-clause-fresh

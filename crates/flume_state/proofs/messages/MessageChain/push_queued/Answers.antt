@@ -12,11 +12,13 @@ returns-in-Err-clause-succeeds g c more =
 
 pub invariant_of-self-2 : goal.invariant_of-self-2
 invariant_of-self-2 g c =
-    (queues _ _ _ _ _ _ _ 0 _ _ c.self.invariant c.self.view_is c.facts.ensures.apart c.in_default.ensures.inserted c.none-label.ensures.none).layout
+    (queues _ _ _ _ _ _ _ 0 _ _ c.self.invariant c.self.view_is c.facts.ensures.apart c.in_default.ensures.inserted
+    c.none-label.ensures.none).layout
 
 pub returns-clause-pushed : goal.returns-clause-pushed
 returns-clause-pushed g c =
-    (queues _ _ _ _ _ _ _ _ _ _ c.self.invariant c.self.view_is c.facts.ensures.apart c.in_default.ensures.inserted c.none-label.ensures.none).view
+    (queues _ _ _ _ _ _ _ _ _ _ c.self.invariant c.self.view_is c.facts.ensures.apart c.in_default.ensures.inserted
+    c.none-label.ensures.none).view
 
 pub returns-clause-space : goal.returns-clause-space
 returns-clause-space g c =

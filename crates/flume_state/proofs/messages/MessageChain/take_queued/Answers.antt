@@ -5,8 +5,11 @@ use Rattle.flume_state.proofs.MessageStepLemmas.{Takes, takes}
 use Rattle.flume_state.proofs.messages.MessageChain.take_queued.Given.{Over}
 use Rattle.flume_state.proofs.messages.MessageChain.take_queued.Goals as goal
 
-front_leaves : (g : Over) (c : goal.In_ok-pop_front g) → Takes c.self.inside.chain.items c.pop_front.new.self.items c.self.inside.blocked c.self.inside.blocked_len (space_of c.self.inside.chain) c.args.self.now
-front_leaves g c = takes _ _ _ _ _ _ c.self.invariant c.self.view_is (λ e. c.if-queued_len-eq0.false (c.queued_len.ensures.len ∙ e)) c.in_ok-pop_front.ensures.taken
+front_leaves : (g : Over) (c : goal.In_ok-pop_front g)
+    → Takes c.self.inside.chain.items c.pop_front.new.self.items c.self.inside.blocked c.self.inside.blocked_len
+    (space_of c.self.inside.chain) c.args.self.now
+front_leaves g c = takes _ _ _ _ _ _ c.self.invariant c.self.view_is (λ e. c.if-queued_len-eq0.false (c.queued_len.ensures.len
+    ∙ e)) c.in_ok-pop_front.ensures.taken
 
 pub invariant_of-self-2 : goal.invariant_of-self-2
 invariant_of-self-2 g c = (front_leaves g c).layout

@@ -21,10 +21,12 @@ pub overflow_sub-self : goal.overflow_sub-self
 overflow_sub-self g c = some_holds _ _ _ _ _ c.self.invariant c.in_ok-send_place_at.ensures.send_place
 
 message_leaves : (g : Over) (c : goal.After-self-1 g)
-    → Withdrawn c.self.inside.chain.items c.remove.new.self.items c.first_without-first.result (c.self.inside.blocked_len - 1) (space_of c.self.inside.chain) c.args.place c.args.self.now
+    → Withdrawn c.self.inside.chain.items c.remove.new.self.items c.first_without-first.result (c.self.inside.blocked_len - 1)
+    (space_of c.self.inside.chain) c.args.place c.args.self.now
 message_leaves g c =
     let e = c.first_without-first.ensures in
-    withdraws _ _ _ _ _ _ _ _ _ c.self.invariant c.self.view_is c.facts.ensures.apart c.in_ok-send_place_at.ensures.send_place (e.next, e.same) c.in_ok-element.ensures.taken
+    withdraws _ _ _ _ _ _ _ _ _ c.self.invariant c.self.view_is c.facts.ensures.apart c.in_ok-send_place_at.ensures.send_place
+    (e.next, e.same) c.in_ok-element.ensures.taken
 
 pub invariant_of-self-2 : goal.invariant_of-self-2
 invariant_of-self-2 g c = (message_leaves g c).layout

@@ -19,7 +19,8 @@ invariant_of-self-in_default g c =
 
 pub returns-in-Some : goal.returns-in-Some
 returns-in-Some g c = record {
-  removed = here_remove c.self.inside.lone c.in-Some.lone c.self.inside.table _ _ c.self.invariant c.in-Some.is c.if-lone-ticket.true c.self.view_is;
+  removed = here_remove c.self.inside.lone c.in-Some.lone c.self.inside.table _ _ c.self.invariant c.in-Some.is c.if-lone-ticket.true
+      c.self.view_is;
 }
 
 pub returns-in_default : goal.returns-in_default

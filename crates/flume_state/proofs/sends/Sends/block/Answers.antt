@@ -13,7 +13,8 @@ invariant_of-self g c =
     let items = c.self.inside.chain in
     elim c.match-insert.branch [
       | in-Ok w ↦ rw w.in-Ok.ensures.inserted (rw (put_sends items c.self.inside.due _)
-          (put_lined (sends_in items) _ _ c.args.ticket (newly_blocked c.args.signal) refl c.self.invariant (apart_sends items c.facts.ensures.apart)))
+          (put_lined (sends_in items) _ _ c.args.ticket (newly_blocked c.args.signal) refl c.self.invariant
+          (apart_sends items c.facts.ensures.apart)))
       | in-Err w ↦ rw w.in-Err.ensures.unchanged c.self.invariant
     ]
 
@@ -23,7 +24,8 @@ returns-clause-live g c =
     elim c.match-insert.branch [
       | in-Ok w ↦ rw w.result-is (rw (sym c.self.view_is)
           (ap by_ticket (ap sends_in w.in-Ok.ensures.inserted ∙ put_sends items c.self.inside.due _)
-          ∙ put_view (sends_in items) _ c.args.ticket _ (newly_blocked c.args.signal) c.self.invariant (apart_sends items c.facts.ensures.apart)
+          ∙ put_view (sends_in items) _ c.args.ticket _ (newly_blocked c.args.signal) c.self.invariant
+          (apart_sends items c.facts.ensures.apart)
           (place_sends c.args.ticket items ∙ w.in-Ok.ensures.new_ticket)))
       | in-Err w ↦ rw w.result-is tt
     ]

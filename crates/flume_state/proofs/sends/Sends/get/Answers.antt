@@ -8,12 +8,14 @@ use Rattle.flume_state.proofs.sends.Sends.get.Goals as goal
 pub returns-in_err-place : goal.returns-in_err-place
 returns-in_err-place g c = record {
   value = rw (sym c.self.view_is) (ap option_copied c.from_residual.ensures
-      ∙ sym (get_none (sends_in c.self.inside.chain) c.args.ticket (place_sends c.args.ticket c.self.inside.chain ∙ sym c.find.ensures.place ∙ c.in_err-place.was)));
+      ∙ sym (get_none (sends_in c.self.inside.chain) c.args.ticket (place_sends c.args.ticket c.self.inside.chain
+      ∙ sym c.find.ensures.place ∙ c.in_err-place.was)));
 }
 
 pub returns-in_err-get : goal.returns-in_err-get
 returns-in_err-get g c =
-    absurd (found_somewhere c.args.ticket c.in_ok-place.place _ c.facts.ensures.apart (sym c.find.ensures.place ∙ c.in_ok-place.was) c.in_err-get.ensures.found)
+    absurd (found_somewhere c.args.ticket c.in_ok-place.place _ c.facts.ensures.apart (sym c.find.ensures.place
+    ∙ c.in_ok-place.was) c.in_err-get.ensures.found)
 
 pub returns : goal.returns
 returns g c = record {

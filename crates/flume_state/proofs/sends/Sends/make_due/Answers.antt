@@ -11,7 +11,8 @@ invariant_of-self-then-not-was_due g c =
     let s = seat items c.args.place _ c.facts.ensures.apart c.facts.ensures.single c.in-Some.ensures.value in
     let m = moved items _ c.args.place s.0 _ _ _ c.facts.ensures.apart s.1 c.move_back.ensures.found c.move_back.ensures.moved in
     rw (c.or-self-inside.ensures, m.sends)
-    (moved_kept (sends_in items) _ _ _ _ (due_accepting c.args.accepts c.in-Some.placed.now.send) c.if-not-was_due.true refl s.1.occupied c.self.invariant)
+    (moved_kept (sends_in items) _ _ _ _ (due_accepting c.args.accepts c.in-Some.placed.now.send) c.if-not-was_due.true refl s.1.occupied
+    c.self.invariant)
 
 pub returns-then-not-was_due : goal.returns-then-not-was_due
 returns-then-not-was_due g c =

@@ -13,7 +13,8 @@ returns-in_err-place-clause-none_due g c =
 
 pub returns-in_err-ticket-clause-none_due : goal.returns-in_err-ticket-clause-none_due
 returns-in_err-ticket-clause-none_due g c =
-    absurd (due_found (λ e. e.label) _ _ c.in_ok-place.place c.self.invariant c.in_ok-place.was c.facts.ensures.apart c.in_err-ticket.ensures.ticket)
+    absurd (due_found (λ e. e.label) _ _ c.in_ok-place.place c.self.invariant c.in_ok-place.was c.facts.ensures.apart
+    c.in_err-ticket.ensures.ticket)
 
 pub invariant_of-self-2 : goal.invariant_of-self-2
 invariant_of-self-2 g c =

@@ -11,7 +11,8 @@ returns-then-number-self-clause-is_refused g c =
     elim c.then-number-self.branch [
       | then-number-self-via-then-number-self w ↦ NoJob (past_end _ _ _ w.if-number-self.true)
       | then-number-self-via-else-number-self+then-ne w ↦
-          NoJob (no_job g.W.Job.PartialEq.eq g.met.W.Job.Eq.laws _ _ w.index-self-number.result _ w.if-number-self.false w.index-self-number.is
+          NoJob (no_job g.W.Job.PartialEq.eq g.met.W.Job.Eq.laws _ _ w.index-self-number.result _ w.if-number-self.false
+          w.index-self-number.is
           (sym w.ne.ensures ∙ w.if-ne.true))
     ]
 

@@ -18,9 +18,11 @@ loop-answer-preserved g c =
     let next = c.poll_sends-answer-in-loop-answer.new.messages.items in
     let result = c.poll_sends-answer-in-loop-answer.result in
     let over = c.loop-answer.invariant.finished (Ok tt) ok in
-    let leaves = finished_poll_leaves c.loop-answer.self.future.send now next result over c.poll_sends-answer-in-loop-answer.ensures.leaves in
+    let leaves = finished_poll_leaves c.loop-answer.self.future.send now next result over
+    c.poll_sends-answer-in-loop-answer.ensures.leaves in
     record {
-      leaves = sent_poll_leaves send all next result (next_leaves all now next result (poll_end _ _ _ _ c.loop-answer.invariant.leaves) leaves);
+      leaves = sent_poll_leaves send all next result
+          (next_leaves all now next result (poll_end _ _ _ _ c.loop-answer.invariant.leaves) leaves);
       finished = c.poll_sends-answer-in-loop-answer.ensures.finished;
       parked = c.poll_sends-answer-in-loop-answer.ensures.parked;
       sender = c.poll_sends-answer-in-loop-answer.ensures.sender ∙ c.loop-answer.invariant.sender;

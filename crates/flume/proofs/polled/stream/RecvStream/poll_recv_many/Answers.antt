@@ -7,4 +7,4 @@ pub returns-clause-appended : goal.returns-clause-appended
 returns-clause-appended g c =
     let items : c.replace-list.result.items ≡ c.args.into.now.items = search rules in
     let most : (c.args.most - 1) + 1 ≡ c.args.most = search rules in
-    many_came _ _ _ c.in-Some.answer most items c.in-Some.is c.poll_many-list.ensures.polled
+    many_came _ _ _ c.in-Some.answer most items c.in-Some.is c.poll_receives-list.ensures.polled

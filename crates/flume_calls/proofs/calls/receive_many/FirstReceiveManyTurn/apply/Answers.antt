@@ -37,7 +37,13 @@ returns-clause-does g c =
       record {
         made = _;
         reachable = took.reachable;
-        answered = Some _ (record { taken = took.taken; steps = refl; items = took.items ∙ ap (λ items. items ++ took.taken) c.try_reserve.ensures.items; number = took.number }) refl;
+        answered = Some _ (record {
+          taken = took.taken;
+          steps = refl;
+          items = took.items
+              ∙ ap (λ items. items ++ took.taken) c.try_reserve.ensures.items;
+          number = took.number;
+        }) refl;
       },
       search rules,
     )

@@ -13,7 +13,8 @@ returns-in-Ok-clause-does g c =
       taken = took.taken;
       turn = c.apply.ensures.does;
       reachable = took.reachable;
-      gives = gives_some _ _ _ took.taken _ _ c.apply.result c.in-Ok.message c.in-Ok.ensures.message c.push_reserved.ensures.items took.items took.number c.take_more-taken.ensures.at_most;
+      gives = gives_some _ _ _ took.taken _ _ c.apply.result c.in-Ok.message c.in-Ok.ensures.message c.push_reserved.ensures.items
+          took.items took.number c.take_more-taken.ensures.at_most;
       none_behind = λ none. absurd (no_message c.apply.result c.in-Ok.message c.in-Ok.ensures.message none);
       all_behind = λ message is. rw took.number c.take_more-taken.ensures.all;
     }
@@ -25,7 +26,8 @@ returns-in-Ok-clause-answers g c =
       first = c.apply.result;
       taken = took.taken;
       answered = c.apply.ensures.answers;
-      gives = gives_some _ _ _ took.taken _ _ c.apply.result c.in-Ok.message c.in-Ok.ensures.message c.push_reserved.ensures.items took.items took.number c.take_more-taken.ensures.at_most;
+      gives = gives_some _ _ _ took.taken _ _ c.apply.result c.in-Ok.message c.in-Ok.ensures.message c.push_reserved.ensures.items
+          took.items took.number c.take_more-taken.ensures.at_most;
       none_given = λ none. absurd (no_message c.apply.result c.in-Ok.message c.in-Ok.ensures.message none);
     }
 

@@ -32,7 +32,8 @@ module _ {T A S : Type 0} where
   }
 
   withdrawn : {old new : State T S} {ticket : ℕ} {reply : Reply T A} → Extends old (WithdrawSend ticket) reply new
-      → (IsReachable A old → BecomesDue old (WithdrawSend ticket) reply new) → PossibleReply (WithdrawSend ticket) reply → old.space ≤ new.space
+      → (IsReachable A old → BecomesDue old (WithdrawSend ticket) reply new) → PossibleReply (WithdrawSend ticket) reply
+      → old.space ≤ new.space
       → (IsRefusal reply → new ≡ old) → IsTransition old (WithdrawSend ticket) reply new
   withdrawn extends becomes_due possible_reply space unchanged = record {
     extends = extends;
@@ -88,14 +89,19 @@ returns-in-Returned-poll_send-clause-does g c = (
     taken_in = search rules;
     timeout = search rules;
     disconnected = λ back e.
-        let found : Returns c.args.chan.now c.poll_send.new.self c.args.self.call back c.in-Returned-poll_send.closed = search rules in
-        (c.in-Returned-poll_send.closed, found, λ reachable. (c.in-Returned-poll_send.ensures.step reachable.0 reachable.1 reachable.2).run.0.2);
+        let found : Returns c.args.chan.now c.poll_send.new.self c.args.self.call back c.in-Returned-poll_send.closed = search rules in (
+          c.in-Returned-poll_send.closed,
+          found,
+          λ reachable.
+              (c.in-Returned-poll_send.ensures.step reachable.0 reachable.1 reachable.2).run.0.2,
+        );
   },
 )
 
 pub returns-in-Returned-2-clause-does : goal.returns-in-Returned-2-clause-does
 returns-in-Returned-2-clause-does g c = rw (← c.call.view_is) (
   (let said = c.in-Returned.ensures in
-      let made = rw c.if-closed.false at (withdrawn said.step said.becomes_due said.possible_reply said.space said.unchanged) in search rules),
+      let made = rw c.if-closed.false at (withdrawn said.step said.becomes_due said.possible_reply said.space said.unchanged) in
+      search rules),
   search rules,
 )

@@ -18,7 +18,8 @@ loop-message-preserved g c =
       fits = λ space.
           let before = c.loop-message.invariant.fits space in
           let one : length c.loop-message.messages.items ≡ length (c.in-Some.message ∷ c.pop_front.new.self.items) = ap length items in
-          let more = one_at_most c.loop-message.chan c.try_send.new.self c.in-Some.message c.in-Sent.filled (c.in-Sent.ensures.sent c.in-Sent.filled refl) in
+          let more = one_at_most c.loop-message.chan c.try_send.new.self c.in-Some.message c.in-Sent.filled
+          (c.in-Sent.ensures.sent c.in-Sent.filled refl) in
           let kept = c.in-Sent.ensures.space in
           omega arith;
     }

@@ -12,7 +12,8 @@ pub returns-clause-row : goal.returns-clause-row
 returns-clause-row g c =
     let again = c.again.ensures in
     let signalled : is_some c.args.signal ≡ c.is_some-signalled.result = search rules in
-    Asks _ c.args.call refl (search rules) again.turn again.answers again.not_refused again.outcome (rw signalled c.finish_poll.ensures.finishes)
+    Asks _ c.args.call refl (search rules) again.turn again.answers again.not_refused again.outcome
+    (rw signalled c.finish_poll.ensures.finishes)
 
 pub returns-clause-step : goal.returns-clause-step
 returns-clause-step g c =

@@ -12,10 +12,18 @@ pub returns : goal.returns
 returns g c =
     let s = c.args.self.now in
     let below = node_below s c.args.place c.requires.occupied in
-    let is = get_or_read_under s.nodes.items c.args.place (vec_len s.nodes) c.index_mut.result.now no_node c.index_mut.ensures.value below s.nodes.ok.0 in (
-      (refl {a = c.value_mut.result.ghost_name}, λ w. ap (λ (x : Node g.row.L.Denot g.row.E.Denot). record s { nodes = with_item s.nodes c.args.place (with_value_of x w) }) is),
+    let is = get_or_read_under s.nodes.items c.args.place (vec_len s.nodes) c.index_mut.result.now no_node c.index_mut.ensures.value below
+    s.nodes.ok.0 in (
+      (
+        refl {a = c.value_mut.result.ghost_name},
+        λ w. ap (λ (x : Node g.row.L.Denot g.row.E.Denot). record s {
+          nodes =
+              with_item s.nodes c.args.place (with_value_of x w);
+        }) is,
+      ),
       record {
         writes_back = tt;
-        value = sym (ap (λ x. option_map (λ (e : LabelledValue g.row.L.Denot g.row.E.Denot). e.value) (element_of x)) is) ∙ c.value_mut.ensures.value;
+        value = sym (ap (λ x. option_map (λ (e : LabelledValue g.row.L.Denot g.row.E.Denot). e.value) (element_of x)) is)
+            ∙ c.value_mut.ensures.value;
       },
     )
