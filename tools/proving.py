@@ -21,7 +21,7 @@ from workspace import ROOT, crates, with_below  # noqa: E402
 # How many seconds the proof of a crate takes from scratch, on four cores that do nothing else.
 SECONDS = {"flume_model": 45, "flume_chain": 50, "flume_state": 105, "flume_error": 25, "flume_core": 135}
 SECONDS |= {"flume_script": 95, "flume_calls": 100, "flume_audit": 90, "flume_history": 90, "flume_deadline": 15}
-SECONDS |= {"flume": 265, "flume_run": 30, "flume_check": 30}
+SECONDS |= {"flume": 265, "flume_run": 30, "flume_judge": 30, "flume_check": 15}
 SECONDS |= {"flume_concurrent": 90, "flume_recording": 45, "flume_explain": 270}
 OTHERS = 60
 # What rt prints before it proves a crate.

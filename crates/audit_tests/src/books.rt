@@ -56,7 +56,6 @@ const MOST_GROWTHS: u64 = 1000;
 #[derive(Drop)]
 struct BookScript<'s>(&'s str);
 
-// Which growths of a step are refused: from the first to the last, counted from 1.
 type RefusedGrowths = (u64, u64);
 
 const NONE: RefusedGrowths = (1, 0);

@@ -24,15 +24,12 @@ const SEEDS: &[u64] = &[20_261_129, 20_261_131, 20_261_133, 20_261_135];
 
 const STEPS: usize = 400;
 
-// Steps ask for one of this many last tickets.
 const RECENT: u64 = 8;
 
-// More tickets than two threads are issued.
 const TICKETS: usize = 2 * STEPS;
 
 const LAST_STEPS: usize = 2 * TICKETS + 11;
 
-// How often replies to random steps begin so at least.
 const LEAST: &[(&str, u64)] = &[
     ("sent", 100),
     ("sent filled ", 100),
@@ -92,7 +89,6 @@ fn with_recent_ticket(step: Step<u64>, last: u64) -> Step<u64> {
     }
 }
 
-// Makes all steps of a thread, and returns its seat, unless one was refused.
 fn make_steps<L: Ledger, R: Wait + Copy>(
     rt: R,
     audit: &Audit<u64, L, R>,

@@ -1,9 +1,8 @@
 //! What the program is asked to time.
 use crate::fault::Fault;
 
-/// What one run does.
 #[derive(Clone, Copy)]
-pub enum Shape {
+pub(crate) enum Shape {
     Seq,
     Spsc,
     Mpsc,
@@ -87,18 +86,15 @@ impl At {
     }
 }
 
-/// What the program is asked to time.
 #[derive(Clone, Copy)]
-pub struct Arguments {
-    pub shape: Shape,
-    /// `None` is unbounded.
-    pub capacity: Option<usize>,
-    pub messages: usize,
+pub(crate) struct Arguments {
+    pub(crate) shape: Shape,
+    pub(crate) capacity: Option<usize>,
+    pub(crate) messages: usize,
 }
 
 impl Arguments {
-    /// Reads `SHAPE CAPACITY MESSAGES`.
-    pub fn read(words: &[String]) -> Result<Arguments, Fault> {
+    pub(crate) fn read(words: &[String]) -> Result<Arguments, Fault> {
         let [shape, capacity, messages] = words else {
             return Err(if words.is_empty() {
                 Fault::NoWords

@@ -30,7 +30,7 @@ fn pass_each<L: Ledger, R: Waits>(
 
 impl<R: Waits> Bench<R> {
     /// `try_pair` as steps of an audited channel.
-    pub fn audit_pair(&self) -> Result<usize, Fault> {
+    pub(crate) fn audit_pair(&self) -> Result<usize, Fault> {
         self.audit_pair_under::<Brand>(Blank::new(1))
     }
 
@@ -50,7 +50,7 @@ impl<R: Waits> Bench<R> {
     }
 
     /// The history of `try_pair` checked. Making it isn't timed.
-    pub fn check_pair(&self, start: &mut Instant) -> usize {
+    pub(crate) fn check_pair(&self, start: &mut Instant) -> usize {
         let mut history = Vec::new(self.alloc);
         let sum = record_each(&mut history, self.messages);
         begin_anew(&self.rt, start);

@@ -10,25 +10,22 @@ use std::alloc::Global;
 use std::random::RandomSource;
 use std::time::{Clock, Duration, Instant};
 
-/// Both ends of a channel.
 #[derive(Drop)]
-pub struct Ends<R: Waits> {
-    pub tx: Sender<usize, R>,
-    pub rx: Receiver<usize, R>,
+pub(crate) struct Ends<R: Waits> {
+    pub(crate) tx: Sender<usize, R>,
+    pub(crate) rx: Receiver<usize, R>,
 }
 
-/// How a shape is run.
 #[derive(Drop)]
-pub struct Bench<R: Waits> {
-    pub rt: R,
-    pub alloc: Global,
-    pub capacity: Option<usize>,
-    pub messages: usize,
+pub(crate) struct Bench<R: Waits> {
+    pub(crate) rt: R,
+    pub(crate) alloc: Global,
+    pub(crate) capacity: Option<usize>,
+    pub(crate) messages: usize,
 }
 
 impl<R: Waits> Bench<R> {
-    /// A new channel.
-    pub fn open(&self) -> Result<Ends<R>, Fault> {
+    pub(crate) fn open(&self) -> Result<Ends<R>, Fault> {
         let opened = match self.capacity {
             None => unbounded(self.rt, self.alloc, 0),
             Some(capacity) => bounded(self.rt, self.alloc, 0, capacity),
@@ -41,7 +38,7 @@ impl<R: Waits> Bench<R> {
 }
 
 /// Times a run. The task is for the shapes polled by hand.
-pub fn time<R: Runtime + RandomSource>(
+pub(crate) fn time<R: Runtime + RandomSource>(
     rt: R,
     alloc: Global,
     task: &MockTask,
@@ -67,8 +64,7 @@ pub fn time<R: Runtime + RandomSource>(
     }
 }
 
-/// Sets the start to now, if the clock can be read.
-pub fn begin_anew<R: Clock>(rt: &R, start: &mut Instant) {
+pub(crate) fn begin_anew<R: Clock>(rt: &R, start: &mut Instant) {
     if let Ok(now) = Instant::now(rt) {
         *start = now;
     }

@@ -10,8 +10,7 @@ use std::mem::forget;
 use std::time::Instant;
 
 impl<R: Waits> Bench<R> {
-    /// The polls of the shape.
-    pub fn in_one_poll(
+    pub(crate) fn in_one_poll(
         &self,
         shape: Shape,
         ends: &Ends<R>,
@@ -32,7 +31,6 @@ impl<R: Waits> Bench<R> {
         }
     }
 
-    // Parking the receives isn't timed.
     fn over_parked(
         &self,
         shape: Shape,

@@ -8,15 +8,13 @@ use std::mem::forget;
 use std::time::Instant;
 
 impl<R: Waits> Bench<R> {
-    /// This many operations of one kind on a channel of capacity 0.
-    pub fn crowd(&self, shape: Shape, start: &mut Instant) -> usize {
+    pub(crate) fn crowd(&self, shape: Shape, start: &mut Instant) -> usize {
         let mut chan = Chan::new(self.alloc, Some(0));
         let sum = self.operate_on(&mut chan, shape, start);
         forget(chan);
         sum
     }
 
-    // Gathering the crowd isn't timed.
     fn operate_on(&self, chan: &mut Chan<usize, ()>, shape: Shape, start: &mut Instant) -> usize {
         let standing = self.capacity.unwrap_or(0);
         gather(chan, shape, standing);

@@ -3,9 +3,8 @@ use crate::USAGE;
 use flume::error::{RecvError, SendError};
 use std::fmt;
 
-/// What may go wrong.
 #[derive(Clone, Copy)]
-pub enum Fault {
+pub(crate) enum Fault {
     NoWords,
     WrongWords,
     /// The shape would wait for ever.
@@ -20,8 +19,7 @@ pub enum Fault {
 }
 
 impl Fault {
-    /// The status that the program ends with.
-    pub fn status(self) -> u8 {
+    pub(crate) fn status(self) -> u8 {
         match self {
             Fault::WrongWords => 2,
             Fault::WrongCapacity => 3,

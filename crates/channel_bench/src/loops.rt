@@ -8,38 +8,35 @@ use flume::polled::{RecvFut, SendFut};
 use futures::task::{Context, Poll};
 use futures::{Future, ready};
 
-/// Which calls a loop makes.
 #[derive(Clone, Copy)]
-pub struct Calls {
+pub(crate) struct Calls {
     sends: bool,
     alternates: bool,
     // What is added to the last message to make the next.
     adds: usize,
 }
 
-/// It sends 0, 1, 2 and so on.
-pub const SENDS: Calls = Calls {
+pub(crate) const SENDS: Calls = Calls {
     sends: true,
     alternates: false,
     adds: 1,
 };
 
-/// It receives.
-pub const RECEIVES: Calls = Calls {
+pub(crate) const RECEIVES: Calls = Calls {
     sends: false,
     alternates: false,
     adds: 0,
 };
 
 /// It sends 0, receives, sends the number after the one that it received, and so on.
-pub const SENDS_FIRST: Calls = Calls {
+pub(crate) const SENDS_FIRST: Calls = Calls {
     sends: true,
     alternates: true,
     adds: 1,
 };
 
 /// It receives, sends what it received, and so on.
-pub const RECEIVES_FIRST: Calls = Calls {
+pub(crate) const RECEIVES_FIRST: Calls = Calls {
     sends: false,
     alternates: true,
     adds: 0,
@@ -79,7 +76,7 @@ impl<'a, R: Waits> Call<'a, R> {
 
 /// Calls of a channel, one after the other. It gives the sum of what was received.
 #[derive(Drop)]
-pub struct Loop<'a, R: Waits> {
+pub(crate) struct Loop<'a, R: Waits> {
     ends: &'a Ends<R>,
     calls: Calls,
     call: Call<'a, R>,
@@ -90,8 +87,7 @@ pub struct Loop<'a, R: Waits> {
 }
 
 impl<'a, R: Waits> Loop<'a, R> {
-    /// A loop that hasn't begun.
-    pub fn new(ends: &'a Ends<R>, calls: Calls, left: usize) -> Self {
+    pub(crate) fn new(ends: &'a Ends<R>, calls: Calls, left: usize) -> Self {
         Loop {
             ends,
             calls,

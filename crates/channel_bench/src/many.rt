@@ -5,8 +5,7 @@ use std::alloc::{AllocError, Global};
 
 const BLOCK: usize = 64;
 
-/// Sends 0, 1, 2 and so on, a block at a time.
-pub fn send_blocks<R: Waits>(alloc: Global, tx: &Sender<usize, R>, messages: usize) {
+pub(crate) fn send_blocks<R: Waits>(alloc: Global, tx: &Sender<usize, R>, messages: usize) {
     for first in (0..messages).step_by(BLOCK) {
         let behind = messages.min(first.saturating_add(BLOCK));
         let Ok(block) = block_of(alloc, first, behind) else {
@@ -26,8 +25,11 @@ fn block_of(alloc: Global, first: usize, behind: usize) -> Result<Vec<usize>, Al
     Ok(block)
 }
 
-/// The sum of up to this many messages, a block at a time.
-pub fn receive_blocks<R: Waits>(alloc: Global, rx: &Receiver<usize, R>, messages: usize) -> usize {
+pub(crate) fn receive_blocks<R: Waits>(
+    alloc: Global,
+    rx: &Receiver<usize, R>,
+    messages: usize,
+) -> usize {
     let mut block = Vec::new(alloc);
     let (mut sum, mut left) = (0usize, messages);
     for _ in 0..messages {
@@ -52,8 +54,7 @@ fn sum_of(messages: &[usize]) -> usize {
     sum
 }
 
-/// All messages sent, and then all received.
-pub fn seq_many<R: Waits>(alloc: Global, ends: &Ends<R>, messages: usize) -> usize {
+pub(crate) fn seq_many<R: Waits>(alloc: Global, ends: &Ends<R>, messages: usize) -> usize {
     send_blocks(alloc, &ends.tx, messages);
     receive_blocks(alloc, &ends.rx, messages)
 }

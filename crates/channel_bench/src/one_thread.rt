@@ -3,8 +3,7 @@ use crate::bench::{Bench, Ends};
 use crate::fault::Fault;
 use flume::{Receiver, Sender, Waits};
 
-/// Sends 0, 1, 2 and so on.
-pub fn send_each<R: Waits>(tx: &Sender<usize, R>, messages: usize) {
+pub(crate) fn send_each<R: Waits>(tx: &Sender<usize, R>, messages: usize) {
     for message in 0..messages {
         if tx.send(message).is_err() {
             return;
@@ -12,8 +11,7 @@ pub fn send_each<R: Waits>(tx: &Sender<usize, R>, messages: usize) {
     }
 }
 
-/// The sum of up to this many messages.
-pub fn receive_each<R: Waits>(rx: &Receiver<usize, R>, messages: usize) -> usize {
+pub(crate) fn receive_each<R: Waits>(rx: &Receiver<usize, R>, messages: usize) -> usize {
     let mut sum = 0usize;
     for _ in 0..messages {
         let Ok(message) = rx.recv() else {
@@ -24,14 +22,12 @@ pub fn receive_each<R: Waits>(rx: &Receiver<usize, R>, messages: usize) -> usize
     sum
 }
 
-/// All messages sent, and then all received.
-pub fn seq<R: Waits>(ends: &Ends<R>, messages: usize) -> usize {
+pub(crate) fn seq<R: Waits>(ends: &Ends<R>, messages: usize) -> usize {
     send_each(&ends.tx, messages);
     receive_each(&ends.rx, messages)
 }
 
-/// Each message sent, and received before the next.
-pub fn inout<R: Waits>(ends: &Ends<R>, messages: usize) -> usize {
+pub(crate) fn inout<R: Waits>(ends: &Ends<R>, messages: usize) -> usize {
     let mut sum = 0usize;
     for message in 0..messages {
         sum = sum.wrapping_add(pass(ends, message));
@@ -47,8 +43,7 @@ fn pass<R: Waits>(ends: &Ends<R>, message: usize) -> usize {
     }
 }
 
-/// The same by the calls that don't wait.
-pub fn try_pair<R: Waits>(ends: &Ends<R>, messages: usize) -> usize {
+pub(crate) fn try_pair<R: Waits>(ends: &Ends<R>, messages: usize) -> usize {
     let mut sum = 0usize;
     for message in 0..messages {
         if ends.tx.try_send(message).is_ok() {
@@ -60,7 +55,7 @@ pub fn try_pair<R: Waits>(ends: &Ends<R>, messages: usize) -> usize {
 
 impl<R: Waits> Bench<R> {
     /// For each message a channel made, the message passed, and both ends dropped.
-    pub fn oneshot(&self) -> usize {
+    pub(crate) fn oneshot(&self) -> usize {
         let mut sum = 0usize;
         for message in 0..self.messages {
             if let Ok(ends) = self.open() {
@@ -72,7 +67,7 @@ impl<R: Waits> Bench<R> {
 }
 
 /// A loop as a user writes it: messages sent and received in turn, and then as many sent and taken.
-pub fn plain<R: Waits>(ends: &Ends<R>, messages: usize) -> Result<usize, Fault> {
+pub(crate) fn plain<R: Waits>(ends: &Ends<R>, messages: usize) -> Result<usize, Fault> {
     let one_by_one = in_turn(ends, messages)?;
     Ok(one_by_one.wrapping_add(at_once(ends, messages)?))
 }

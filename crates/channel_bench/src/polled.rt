@@ -11,13 +11,11 @@ use std::mem::swap;
 use std::random::RandomSource;
 
 impl<R: Runtime + RandomSource> Bench<R> {
-    /// Each message sent, and received before the next, in one task.
-    pub fn async_pair(&self) -> Result<usize, Fault> {
+    pub(crate) fn async_pair(&self) -> Result<usize, Fault> {
         to_and_fro(&self.rt, &self.open()?, SENDS_FIRST, self.messages)
     }
 
-    /// A future that sends all, and another one that receives all, in one task.
-    pub fn async_join(&self) -> Result<usize, Fault> {
+    pub(crate) fn async_join(&self) -> Result<usize, Fault> {
         let ends = self.open()?;
         let sends = Loop::new(&ends, SENDS, self.messages);
         let receives = Loop::new(&ends, RECEIVES, self.messages);
@@ -25,7 +23,7 @@ impl<R: Runtime + RandomSource> Bench<R> {
     }
 
     /// Half of the messages sent to a second thread, which sends each back over a second channel.
-    pub fn async_ping(&self) -> Result<usize, Fault> {
+    pub(crate) fn async_ping(&self) -> Result<usize, Fault> {
         let (mut here, mut there) = (self.open()?, self.open()?);
         swap(&mut here.rx, &mut there.rx);
         self.ping(&here, there)
@@ -41,7 +39,7 @@ impl<R: Runtime + RandomSource> Bench<R> {
 }
 
 /// The sum of this many messages, each sent, and one received before the next.
-pub fn to_and_fro<R: Runtime + RandomSource>(
+pub(crate) fn to_and_fro<R: Runtime + RandomSource>(
     rt: &R,
     ends: &Ends<R>,
     calls: Calls,

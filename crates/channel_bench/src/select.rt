@@ -12,7 +12,7 @@ const FOUR: usize = 4;
 
 impl<R: Runtime + RandomSource> Bench<R> {
     /// Four threads send, each into a channel of its own, and this one receives all by selections.
-    pub fn select_rx(&self) -> Result<usize, Fault> {
+    pub(crate) fn select_rx(&self) -> Result<usize, Fault> {
         let each = self.messages / FOUR;
         let channels = self.open_four();
         let mut threads = Vec::new(self.alloc);
@@ -25,8 +25,7 @@ impl<R: Runtime + RandomSource> Bench<R> {
 }
 
 impl<R: Waits> Bench<R> {
-    /// Each message sent into one of the channels in turn, and received by a selection over all.
-    pub fn select_seq(&self) -> usize {
+    pub(crate) fn select_seq(&self) -> usize {
         select_in_turn(&self.open_four(), self.messages)
     }
 

@@ -10,9 +10,8 @@ use std::random::RandomSource;
 use std::thread;
 use std::thread::JoinHandle;
 
-/// What a thread does with the ends that it has.
 #[derive(Drop)]
-pub enum Work<R: Waits> {
+pub(crate) enum Work<R: Waits> {
     Sends(Sender<usize, R>),
     Receives(Receiver<usize, R>),
     SendsMany(Sender<usize, R>),
@@ -39,18 +38,17 @@ impl<R: Runtime + RandomSource> Work<R> {
     }
 }
 
-/// How many threads send and receive, and how.
 #[derive(Clone, Copy)]
-pub struct Crew {
-    pub senders: usize,
+pub(crate) struct Crew {
+    pub(crate) senders: usize,
     /// As many others receive; else this thread does.
-    pub several: bool,
-    pub many: bool,
+    pub(crate) several: bool,
+    pub(crate) many: bool,
 }
 
 impl Crew {
     /// This many threads send, and this one receives, a message a call.
-    pub fn of(senders: usize) -> Crew {
+    pub(crate) fn of(senders: usize) -> Crew {
         Crew {
             senders,
             several: false,
@@ -60,8 +58,7 @@ impl Crew {
 }
 
 impl<R: Runtime + RandomSource> Bench<R> {
-    /// The sum of what is received.
-    pub fn in_threads(&self, crew: Crew) -> Result<usize, Fault> {
+    pub(crate) fn in_threads(&self, crew: Crew) -> Result<usize, Fault> {
         let each = self.messages / crew.senders.max(1);
         let ends = self.open()?;
         let mut threads = Vec::new(self.alloc);
@@ -77,8 +74,7 @@ impl<R: Runtime + RandomSource> Bench<R> {
         Ok(sum.wrapping_add(self.join_all(threads)))
     }
 
-    /// Starts the threads that send this many messages each; if several receive, as many more.
-    pub fn start_each(
+    pub(crate) fn start_each(
         &self,
         threads: &mut Vec<JoinHandle<usize>>,
         ends: &Ends<R>,
@@ -117,8 +113,7 @@ impl<R: Runtime + RandomSource> Bench<R> {
         self.start(threads, work, each)
     }
 
-    /// Starts a thread that does this work.
-    pub fn start(
+    pub(crate) fn start(
         &self,
         threads: &mut Vec<JoinHandle<usize>>,
         work: Work<R>,
@@ -134,8 +129,7 @@ impl<R: Runtime + RandomSource> Bench<R> {
         }
     }
 
-    /// The sum of what the threads received.
-    pub fn join_all(&self, threads: Vec<JoinHandle<usize>>) -> usize {
+    pub(crate) fn join_all(&self, threads: Vec<JoinHandle<usize>>) -> usize {
         let mut sum = 0usize;
         for thread in threads {
             sum = sum.wrapping_add(thread.join(&self.rt));

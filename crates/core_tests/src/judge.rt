@@ -31,7 +31,6 @@ enum TicketState {
 struct Ticket {
     number: u64,
     state: TicketState,
-    // Whether it was due since it began to wait.
     was_due: bool,
 }
 

@@ -65,7 +65,6 @@ struct CountedChannel<'a> {
     messages: &'a Counts,
     signals: &'a Counts,
     replaces_signals: bool,
-    // A ticket that is due is asked for after each step.
     asks_due: bool,
     last_ticket: u64,
 }

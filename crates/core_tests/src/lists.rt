@@ -49,7 +49,7 @@ fn messages_need_not_be_copied(rt: HostRuntime) {
         IsDisconnected,
     ];
     let wanted = "[Sent { filled: None }, Pending(1), Done, \
-        Returned { message: Parcel(2), closed: true }, Truth(true)]";
+        Returned { message: Parcel(2), closed: true }, Flag(true)]";
     replies_are((&rt, a), (1, 1), unwrap(&rt, steps), wanted);
 }
 

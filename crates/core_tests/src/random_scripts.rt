@@ -8,7 +8,6 @@ use flume_model::step::Step;
 use std::alloc::Global;
 use std::process::Abort;
 
-// A script is this many lists of this many steps.
 const SCRIPTS: u64 = 2_000;
 
 const LISTS: u64 = 10;

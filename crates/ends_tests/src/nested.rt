@@ -10,10 +10,8 @@ use std::time::Instant;
 use test_support::stoppable_clock::{ClockState, StoppableClock};
 use test_support::work::Work;
 
-// At these two threads meet.
 const MEETING: &[Option<usize>] = &[None, Some(0)];
 
-// At these a message is left in a channel.
 const QUEUEING: &[Option<usize>] = &[None, Some(1)];
 
 #[derive(Drop)]
@@ -176,7 +174,6 @@ fn an_end_that_is_left_in_a_channel_is_dropped_with_it(rt: HostRuntime) {
     }
 }
 
-// A parked receive ends as the channel is dropped that has its last sender.
 fn receive_ends<H, R>(
     host: &H,
     (rt, alloc): (R, Global),
@@ -212,7 +209,6 @@ fn a_parked_receive_ends_as_its_sender_is_dropped_with_a_channel(rt: HostRuntime
     watchdog.end(&rt);
 }
 
-// A sender in a blocked send is dropped as that ends.
 fn sender_is_dropped<H, R>(
     host: &H,
     (rt, alloc): (R, Global),

@@ -97,7 +97,7 @@ fn a_channel_that_is_closed_has_no_message_left(rt: HostRuntime) {
         begins(0, Call::Recv),
         returns(0, Answer::Disconnected),
         begins(0, Call::IsDisconnected),
-        returns(0, Answer::Truth(true)),
+        returns(0, Answer::Flag(true)),
         begins(0, Call::SetCapacity(3)),
         returns(0, Answer::Disconnected),
         begins(0, Call::Len),

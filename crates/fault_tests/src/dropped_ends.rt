@@ -9,7 +9,6 @@ use flume_script::writing::write_reply;
 use std::alloc::Global;
 use std::process::Abort;
 
-// What each step answers if no end is dropped.
 const SCRIPTS: &str = "
 = receivers of three kinds wait, are woken and filled, and ask out of order
 bounded 1

@@ -77,7 +77,7 @@ fn script_with_refusal<'h>(heap: Heap<'h>, script: &str, growth: u64) -> (Vec<u8
     let answer = run_script(heap, script.as_bytes());
     heap.refuse(false);
     match answer {
-        Ok(script) => (script.text, false),
+        Ok(output) => (output.text, false),
         Err(_) => (Vec::new(heap), true),
     }
 }

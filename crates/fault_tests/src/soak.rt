@@ -49,7 +49,6 @@ fn short() -> Duration {
     Duration::from_millis(1)
 }
 
-// The message, if it comes back.
 fn send_once<R: Waits, A: Allocator + Copy>(tx: &Sender<u64, R, A>, message: u64) -> Option<u64> {
     match message % 3 {
         0 => tx.send(message).err().map(|error| error.into_inner()),
@@ -61,7 +60,6 @@ fn send_once<R: Waits, A: Allocator + Copy>(tx: &Sender<u64, R, A>, message: u64
     }
 }
 
-// False: another message came back.
 fn send_until_taken<R: Waits, A: Allocator + Copy>(
     rt: &R,
     tx: &Sender<u64, R, A>,
@@ -79,7 +77,6 @@ fn send_until_taken<R: Waits, A: Allocator + Copy>(
 
 #[derive(Clone, Copy, PartialEq, Drop)]
 enum Sent {
-    // Its future was dropped as it waited.
     Unknown,
     Taken,
     CameBack,
@@ -238,7 +235,6 @@ fn receive_all<R: TestRuntime, A: Allocator + Copy>(
     }
 }
 
-// Whether all threads were started.
 fn run_threads<R: TestRuntime, A: Allocator + Copy + Send + Sync>(
     rt: R,
     (tx, rx): (Sender<u64, R, A>, Receiver<u64, R, A>),

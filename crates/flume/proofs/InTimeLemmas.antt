@@ -20,7 +20,7 @@ module _ {T A : Type 0} where
   -- a parked send with no deadline is never too late
   parked_send : {old new : Deadline} {ticket : ℕ} {result : Result (Unit {0}) (SendTimeoutError T)}
       → send.ParkedSend (SendAgain A) WaitsUpTo old ticket new result → old ≡ Never → (back : T) → result ≢ Err (SendTimeout back)
-  parked_send {ticket = ticket} (send.Asked a) never back late = subst (λ r. send_turn.IsLater ticket (SendDone r)) late a.answers
+  parked_send {ticket = ticket} (send.Asked a) never back late = subst (λ r. send_turn.IsPollAnswer ticket (SendDone r)) late a.answers
   parked_send (send.Expired a w b) never back late = w.reached refl (a.same ∙ never)
   parked_send (send.Waited a w rest) never back late = parked_send rest (w.same ∙ a.same ∙ never) back late
 
@@ -28,16 +28,17 @@ module _ {T A : Type 0} where
   pub send_in_time : {old new : Deadline} {message : T} {result : Result (Unit {0}) (SendTimeoutError T)}
       → send.WholeSend (SendFirst A) MakesWaiter (SendPark A) (SendAgain A) WaitsUpTo old message new result → old ≡ Never
       → (back : T) → result ≢ Err (SendTimeout back)
-  send_in_time {message = message} (send.AtFirst f) never back late = subst (λ r. send_turn.IsFirst message (SendDone r)) late f.answers
+  send_in_time {message = message} (send.AtFirst f) never back late = subst (λ r. send_turn.IsFirstAnswer message (SendDone r)) late
+      f.answers
   send_in_time (send.NoWaiter f a e) never back late = absurd (let none : ⊥ = cc in none)
   send_in_time {message = message} (send.AtPark f a p) never back late =
-      subst (λ r. send_turn.IsParking message (SendDone r)) late p.answers
+      subst (λ r. send_turn.IsParkingAnswer message (SendDone r)) late p.answers
   send_in_time (send.Parked f a p rest) never back late = parked_send rest (p.same ∙ a ∙ f.same ∙ never) back late
 
   -- a parked receive with no deadline is never too late
   parked_receive : {old new : Deadline} {ticket : ℕ} {result : Result T RecvTimeoutError}
       → receive.ParkedReceive (ReceiveAgain A) WaitsUpTo old ticket new result → old ≡ Never → result ≢ Err RecvTimeout
-  parked_receive {ticket = ticket} (receive.Asked a) never late = subst (λ r. receive_turn.IsLater ticket (RecvDone r)) late a.answers
+  parked_receive {ticket = ticket} (receive.Asked a) never late = subst (λ r. receive_turn.IsPollAnswer ticket (RecvDone r)) late a.answers
   parked_receive (receive.Withdrawn a b e) never late = absurd a.not_refused
   parked_receive (receive.Expired a w b) never late = w.reached refl (a.same ∙ never)
   parked_receive (receive.Waited a w rest) never late = parked_receive rest (w.same ∙ a.same ∙ never) late
@@ -46,7 +47,7 @@ module _ {T A : Type 0} where
   pub receive_in_time : {old new : Deadline} {result : Result T RecvTimeoutError}
       → receive.WholeReceive (ReceiveFirst A) MakesWaiter (ReceivePark A) (ReceiveAgain A) WaitsUpTo old new result → old ≡ Never
       → result ≢ Err RecvTimeout
-  receive_in_time (receive.AtFirst f) never late = subst (λ r. receive_turn.IsFirst (RecvDone r)) late f.answers
+  receive_in_time (receive.AtFirst f) never late = subst (λ r. receive_turn.IsFirstAnswer (RecvDone r)) late f.answers
   receive_in_time (receive.NoWaiter f a e) never late = absurd (let none : ⊥ = cc in none)
-  receive_in_time (receive.AtPark f a p) never late = subst (λ r. receive_turn.IsParking (RecvDone r)) late p.answers
+  receive_in_time (receive.AtPark f a p) never late = subst (λ r. receive_turn.IsParkingAnswer (RecvDone r)) late p.answers
   receive_in_time (receive.Parked f a p rest) never late = parked_receive rest (p.same ∙ a ∙ f.same ∙ never) late

@@ -99,7 +99,7 @@ module _ {T : Type 0} where
   tried_came most before after next (Err e) grows is = tt
 
   -- a turn that may park answers as one does, with how many came
-  parking_more : (n : ℕ) (first : RecvNext T) → turn.IsParking first → turn.IsParking (with_more n first)
+  parking_more : (n : ℕ) (first : RecvNext T) → turn.IsParkingAnswer first → turn.IsParkingAnswer (with_more n first)
   parking_more n (Done (Ok m)) is = tt
   parking_more n (Done (Err e)) is = is
   parking_more n NeedSignal is = is
@@ -107,11 +107,12 @@ module _ {T : Type 0} where
   parking_more n (Refused t) is = is
 
   -- a turn that may park answers as one does
-  pub parks_many : (next : RecvNext ℕ) → AnswersMany {T = T} (λ first. turn.IsParking first) next → turn.IsParking next
-  parks_many next is = subst (λ n. turn.IsParking n) (sym is.next_is) (parking_more is.more is.first is.answered)
+  pub parks_many : (next : RecvNext ℕ) → AnswersMany {T = T} (λ first. turn.IsParkingAnswer first) next → turn.IsParkingAnswer next
+  parks_many next is = subst (λ n. turn.IsParkingAnswer n) (sym is.next_is) (parking_more is.more is.first is.answered)
 
   -- a turn of a parked call answers as one does, with how many came
-  again_more : (t : ℕ) (late : Bool) (n : ℕ) (first : RecvNext T) → turn.IsAgain t late first → turn.IsAgain t late (with_more n first)
+  again_more : (t : ℕ) (late : Bool) (n : ℕ) (first : RecvNext T) → turn.IsParkedAnswer t late first
+      → turn.IsParkedAnswer t late (with_more n first)
   again_more t false n (Done (Ok m)) is = tt
   again_more t false n (Done (Err e)) is = is
   again_more t false n NeedSignal is = is
@@ -124,7 +125,7 @@ module _ {T : Type 0} where
   again_more t true n (Refused s) is = is
 
   -- a turn that isn't refused isn't with how many came
-  served_more : (n : ℕ) (first : RecvNext T) → turn.IsntRefused first → turn.IsntRefused (with_more n first)
+  served_more : (n : ℕ) (first : RecvNext T) → turn.HadMemory first → turn.HadMemory (with_more n first)
   served_more n (Done (Ok m)) is = tt
   served_more n (Done (Err e)) is = is
   served_more n NeedSignal is = is
@@ -132,10 +133,10 @@ module _ {T : Type 0} where
   served_more n (Refused t) is = is
 
   -- a turn of a parked call answers as one does
-  pub asks_many : (t : ℕ) (late : Bool) (next : RecvNext ℕ) → AnswersMany {T = T} (λ first. turn.IsAgain t late first
-      × turn.IsntRefused first) next
-      → turn.IsAgain t late next × turn.IsntRefused next
-  asks_many t late next is = subst (λ n. turn.IsAgain t late n × turn.IsntRefused n) (sym is.next_is)
+  pub asks_many : (t : ℕ) (late : Bool) (next : RecvNext ℕ) → AnswersMany {T = T} (λ first. turn.IsParkedAnswer t late first
+      × turn.HadMemory first) next
+      → turn.IsParkedAnswer t late next × turn.HadMemory next
+  asks_many t late next is = subst (λ n. turn.IsParkedAnswer t late n × turn.HadMemory n) (sym is.next_is)
       (again_more t late is.more is.first is.answered.0, served_more is.more is.first is.answered.1)
 
   -- a turn that gave a message ended the call
@@ -158,16 +159,16 @@ module _ {T : Type 0} where
   same_of most before after (Ok count) grows = tt
   same_of most before after (Err e) grows = grows
 
-module _ {G T A : Type 0} (deadline : G → Deadline) (most : G → ℕ) (into : G → Vec T A) where
+module _ {G T A : Type 0} (deadline : G → Deadline) (most : G → ℕ) (buffer : G → Vec T A) where
   -- what the list holds
   abbrev items : G → List T
-  items gate = (into gate).items
+  items gate = (buffer gate).items
 
   -- what the first turn of a receive of many does to its gate
   abbrev Firsts : G → G → RecvNext ℕ → Type 0
-  Firsts old new next = (deadline new ≡ deadline old) × (most new ≡ most old) × turn.IsFirst next
+  Firsts old new next = (deadline new ≡ deadline old) × (most new ≡ most old) × turn.IsFirstAnswer next
       × GrowsBy (most old) (items old) (items new) next
-      × ReceivesBatch A (items old) (items new) next × LacksRoom (into old) (most old) next
+      × ReceivesBatch A (items old) (items new) next × LacksRoom (buffer old) (most old) next
 
   -- what making its parker does to it
   abbrev MakesWaiter : G → G → Bool → Type 0
@@ -175,14 +176,14 @@ module _ {G T A : Type 0} (deadline : G → Deadline) (most : G → ℕ) (into :
 
   -- what the turn that may park does to it
   abbrev Parks : G → G → RecvNext ℕ → Type 0
-  Parks old new next = (deadline new ≡ deadline old) × (most new ≡ most old) × turn.IsParking next
+  Parks old new next = (deadline new ≡ deadline old) × (most new ≡ most old) × turn.IsParkingAnswer next
       × GrowsBy (most old) (items old) (items new) next
       × MakesMany {T = T} A (Recv Block) turn.after_recv next
 
   -- what a turn of the parked call does to it
   abbrev Agains : G → ℕ → Bool → G → RecvNext ℕ → Type 0
-  Agains old ticket late new next = (deadline new ≡ deadline old) × (most new ≡ most old) × turn.IsAgain ticket late next
-      × turn.IsntRefused next
+  Agains old ticket late new next = (deadline new ≡ deadline old) × (most new ≡ most old) × turn.IsParkedAnswer ticket late next
+      × turn.HadMemory next
       × GrowsBy (most old) (items old) (items new) next
       × MakesMany {T = T} A (turn.step_of_parked_receive ticket late) (turn.after_parked_receive ticket late) next
 
@@ -219,7 +220,7 @@ module _ {G T A : Type 0} (deadline : G → Deadline) (most : G → ℕ) (into :
   -- the parked call isn't late if it has no deadline
   parked_in_time : {old new : G} {ticket : ℕ} {result : Result ℕ RecvTimeoutError} → gate.ParkedReceive Agains Waits old ticket new result
       → deadline old ≡ Never → result ≢ Err Timeout
-  parked_in_time {ticket = ticket} (gate.Asked a) never late = subst (λ r. turn.IsLater ticket (Done r)) late a.2
+  parked_in_time {ticket = ticket} (gate.Asked a) never late = subst (λ r. turn.IsPollAnswer ticket (Done r)) late a.2
   parked_in_time (gate.Withdrawn a b e) never late = absurd a.3
   parked_in_time (gate.Expired a w b) never late = w.3 refl (a.0 ∙ never)
   parked_in_time (gate.Waited a w rest) never late = parked_in_time rest (w.0 ∙ a.0 ∙ never) late
@@ -228,9 +229,9 @@ module _ {G T A : Type 0} (deadline : G → Deadline) (most : G → ℕ) (into :
   pub whole_in_time : {old new : G} {result : Result ℕ RecvTimeoutError}
       → gate.WholeReceive Firsts MakesWaiter Parks Agains Waits old new result
       → deadline old ≡ Never → result ≢ Err Timeout
-  whole_in_time (gate.AtFirst f) never late = subst (λ r. turn.IsFirst (Done r)) late f.2
+  whole_in_time (gate.AtFirst f) never late = subst (λ r. turn.IsFirstAnswer (Done r)) late f.2
   whole_in_time (gate.NoWaiter f a e) never late = absurd (let none : ⊥ = cc in none)
-  whole_in_time (gate.AtPark f a p) never late = subst (λ r. turn.IsParking (Done r)) late p.2
+  whole_in_time (gate.AtPark f a p) never late = subst (λ r. turn.IsParkingAnswer (Done r)) late p.2
   whole_in_time (gate.Parked f a p rest) never late = parked_in_time rest (p.0 ∙ a.0 ∙ f.0 ∙ never) late
 
   -- the turn that ended the parked call
@@ -255,8 +256,8 @@ module _ {G T A : Type 0} (deadline : G → Deadline) (most : G → ℕ) (into :
   pub whole_room : {old new : G} {result : Result ℕ RecvTimeoutError}
       → gate.WholeReceive Firsts MakesWaiter Parks Agains Waits old new result
       → result ≡ Err NoMemory
-      → (vec_capacity (into old) < vec_len (into old) + most old) ⊎ FindsNone T A
-  whole_room {old} (gate.AtFirst f) said = inl (subst (λ r. LacksRoom (into old) (most old) (Done r)) said f.5)
+      → (vec_capacity (buffer old) < vec_len (buffer old) + most old) ⊎ FindsNone T A
+  whole_room {old} (gate.AtFirst f) said = inl (subst (λ r. LacksRoom (buffer old) (most old) (Done r)) said f.5)
   whole_room (gate.NoWaiter f a e) said = inr (first_none f.4)
   whole_room (gate.AtPark f a p) said = inr (first_none f.4)
   whole_room (gate.Parked f a p rest) said = inr (first_none f.4)

@@ -30,9 +30,9 @@ module _ {T S A : Type 0} where
 
   -- the steps of a first turn
   pub first_made : {before : List T} {outcome : State T S → State T S → ManyNext T A → Type 0} {answer : ManyNext T A}
-      → HasDone A (λ old new answer. IsBatch {A = A} (λ made is. FirstManyTable before made is.into.items is.next) old new answer
+      → HasDone A (λ old new answer. IsBatch {A = A} (λ made is. FirstManyTable before made is.buffer.items is.next) old new answer
       × outcome old new answer) answer
-      → ReceivesBatch A before answer.into.items answer.next
+      → ReceivesBatch A before answer.buffer.items answer.next
   first_made done =
       let batch = done.turn.0 in
       record {
@@ -44,15 +44,15 @@ module _ {T S A : Type 0} where
       }
 
   -- a first turn that found no memory lacked room
-  pub lacks_room : (into : Vec T A) (most : ℕ) (old new : State T S) (next : RecvNext ℕ) → FirstManyOutcome into most old new next
-      → LacksRoom into most next
-  lacks_room into most old new (Done (Ok count)) is = tt
-  lacks_room into most old new (Done (Err Timeout)) is = tt
-  lacks_room into most old new (Done (Err Disconnected)) is = tt
-  lacks_room into most old new (Done (Err NoMemory)) is = let lacks = (is.no_memory refl).1 in omega arith
-  lacks_room into most old new NeedSignal is = tt
-  lacks_room into most old new (Park t) is = tt
-  lacks_room into most old new (Refused t) is = tt
+  pub lacks_room : (buffer : Vec T A) (most : ℕ) (old new : State T S) (next : RecvNext ℕ) → FirstManyOutcome buffer most old new next
+      → LacksRoom buffer most next
+  lacks_room buffer most old new (Done (Ok count)) is = tt
+  lacks_room buffer most old new (Done (Err Timeout)) is = tt
+  lacks_room buffer most old new (Done (Err Disconnected)) is = tt
+  lacks_room buffer most old new (Done (Err NoMemory)) is = let lacks = (is.no_memory refl).1 in omega arith
+  lacks_room buffer most old new NeedSignal is = tt
+  lacks_room buffer most old new (Park t) is = tt
+  lacks_room buffer most old new (Refused t) is = tt
 
   -- one step was made, and its answer is with how many came
   pub made_many : {step : Step T} {table : Reply T A → RecvNext T → Type 0} {outcome : State T S → State T S → RecvNext T → Type 0}

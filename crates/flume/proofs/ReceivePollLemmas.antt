@@ -9,7 +9,7 @@ use Rattle.flume_core.specs.declared.error.RecvTimeoutError.TheVariants as timed
 use Rattle.flume_calls.specs.declared.calls.receive.RecvNext.{RecvNext}
 use Rattle.flume_calls.specs.declared.calls.receive.RecvNext.TheVariants.{Done, NeedSignal, Park, Refused}
 use Rattle.flume_calls.specs.declared.polled.receive.PolledReceive.{PolledReceive}
-use Rattle.flume_calls.specs.ReceiveTurns.{IsFirst, IsParking, IsLater, IsntRefused}
+use Rattle.flume_calls.specs.ReceiveTurns.{IsFirstAnswer, IsParkingAnswer, IsPollAnswer, HadMemory}
 use Rattle.flume_calls.specs.PolledReceives.{waiting_answer, finishes_receive, ReceivePoll, Tries, Parks, Unsignalled, Asks}
 use Rattle.flume.specs.ManyReceiveCalls.{Appends}
 use Rattle.flume.specs.ReceivePolls.{LeavesCall, HasPolledReceive, AddsMore, HasPolledMany}
@@ -32,7 +32,7 @@ module _ {T : Type 0} where
   with_answer call after said is leaves = subst (λ a. Leaves call after a) (sym is) leaves
 
   -- a receive that wasn't parked, and had no signal
-  first_leaves : (next : RecvNext T) (after : Option ℕ) (answer : Option (Result T RecvError)) → IsFirst next → IsntRefused next
+  first_leaves : (next : RecvNext T) (after : Option ℕ) (answer : Option (Result T RecvError)) → IsFirstAnswer next → HadMemory next
       → finishes_receive false next after answer → Leaves None after answer
   first_leaves (Done (Ok m)) after answer first served is = with_answer None after (Some (Ok m)) is.1 is.0
   first_leaves (Done (Err timed.Disconnected)) after answer first served is = with_answer None after (Some (Err Disconnected)) is.1 is.0
@@ -43,7 +43,7 @@ module _ {T : Type 0} where
   first_leaves (Refused t) after answer first served is = absurd first
 
   -- a receive that wasn't parked, and had a signal
-  parking_leaves : (next : RecvNext T) (after : Option ℕ) (answer : Option (Result T RecvError)) → IsParking next
+  parking_leaves : (next : RecvNext T) (after : Option ℕ) (answer : Option (Result T RecvError)) → IsParkingAnswer next
       → finishes_receive true next after answer → Leaves None after answer
   parking_leaves (Done (Ok m)) after answer parking is = with_answer None after (Some (Ok m)) is.1 is.0
   parking_leaves (Done (Err timed.Disconnected)) after answer parking is = with_answer None after (Some (Err Disconnected)) is.1 is.0
@@ -63,8 +63,9 @@ module _ {T : Type 0} where
   waiting_leaves t same false after answer is parked said = with_answer (Some t) after (Some (Err NoMemory)) said (parked ∙ ap Some is)
 
   -- a parked receive
-  later_leaves : (t : ℕ) (signalled : Bool) (next : RecvNext T) (after : Option ℕ) (answer : Option (Result T RecvError)) → IsLater t next
-      → IsntRefused next → finishes_receive signalled next after answer → Leaves (Some t) after answer
+  later_leaves : (t : ℕ) (signalled : Bool) (next : RecvNext T) (after : Option ℕ) (answer : Option (Result T RecvError))
+      → IsPollAnswer t next
+      → HadMemory next → finishes_receive signalled next after answer → Leaves (Some t) after answer
   later_leaves t signalled (Done (Ok m)) after answer later served is = with_answer (Some t) after (Some (Ok m)) is.1 is.0
   later_leaves t signalled (Done (Err timed.Disconnected)) after answer later served is =
       with_answer (Some t) after (Some (Err Disconnected)) is.1 is.0

@@ -9,7 +9,7 @@ use Rattle.flume_calls.specs.declared.calls.send.SendNext.{SendNext}
 use Rattle.flume_calls.specs.declared.calls.send.SendNext.TheVariants.{Done, NeedSignal, Park}
 use Rattle.flume_calls.specs.declared.polled.send.PolledSend.{PolledSend}
 use Rattle.flume_calls.specs.declared.polled.send.PolledSend.TheVariants.{Unsent, Parked, Finished}
-use Rattle.flume_calls.specs.SendTurns.{IsFirst, IsParking, IsAgain}
+use Rattle.flume_calls.specs.SendTurns.{IsFirstAnswer, IsParkingAnswer, IsParkedAnswer}
 use Rattle.flume_calls.specs.PolledSends.{finishes_send, SendPoll, AlreadyFinished, Tries, Parks, Asks}
 
 -- what a poll answers
@@ -17,7 +17,7 @@ abbrev pub Answer : Type 0 → Type 0
 Answer T = Option (Result (Unit {0}) (SendError T))
 
 -- a turn of a parked send that waits on keeps its ticket
-same_ticket : (T : Type 0) (ticket : ℕ) (late : Bool) (same : ℕ) → IsAgain {T = T} ticket late (Park same) → same ≡ ticket
+same_ticket : (T : Type 0) (ticket : ℕ) (late : Bool) (same : ℕ) → IsParkedAnswer {T = T} ticket late (Park same) → same ≡ ticket
 same_ticket T ticket false same again = again
 same_ticket T ticket true same again = absurd again
 
@@ -54,7 +54,7 @@ module _ {T : Type 0} where
   pending_parks (Park ticket) after answer is none = (ticket, refl, is.0)
 
   -- what comes back by a first turn
-  first_back : (message : T) (next : SendNext T) → IsFirst message next → (after : PolledSend T) (answer : Answer T)
+  first_back : (message : T) (next : SendNext T) → IsFirstAnswer message next → (after : PolledSend T) (answer : Answer T)
       → finishes_send next after answer → (error : SendError T) → answer ≡ Some (Err error) → back_of error ≡ message
   first_back message (Done (Ok sent)) first after answer is error ready =
       let ended : answer ≡ Some (Ok tt) = is.1 in absurd (let none : ⊥ = cc in none)
@@ -71,7 +71,7 @@ module _ {T : Type 0} where
   first_back message (Park ticket) first after answer is error ready = absurd first
 
   -- what comes back by a turn that may park
-  parking_back : (message : T) (next : SendNext T) → IsParking message next → (after : PolledSend T) (answer : Answer T)
+  parking_back : (message : T) (next : SendNext T) → IsParkingAnswer message next → (after : PolledSend T) (answer : Answer T)
       → finishes_send next after answer → (error : SendError T) → answer ≡ Some (Err error) → back_of error ≡ message
   parking_back message (Done result) parking after answer is error ready =
       first_back message (Done result) parking after answer is error ready
@@ -110,7 +110,7 @@ module _ {T S A : Type 0} {send after : PolledSend T} {signal : Option S} {old n
   keeps_ticket (Asks late t next is held signalled turned again outcome settles) ticket parked none =
       let now = pending_parks next after answer settles none in
       let same : t ≡ ticket = cc in
-      let stays = same_ticket T t late now.0 (subst (λ next. IsAgain t late next) now.1 again) in
+      let stays = same_ticket T t late now.0 (subst (λ next. IsParkedAnswer t late next) now.1 again) in
       now.2 ∙ ap Parked (stays ∙ same)
 
   -- a send that has ended answers that it is sent

@@ -41,13 +41,13 @@ module _ {T : Type 0} (A : Type 0) where
   -- a send arm starts, or there was no memory for that
   abbrev pub StartsSend : T → ArmNext → SendState T → Type 0
   StartsSend message answer new =
-      MakesSend (Send message) after_send (send_turn.IsParking message) answer new
+      MakesSend (Send message) after_send (send_turn.IsParkingAnswer message) answer new
       ⊎ ((answer ≡ next.NoMemory) × (new ≡ sending.Finished))
 
   -- a send arm is tried, and isn't parked
   abbrev pub TriesSend : T → ArmNext → SendState T → Type 0
   TriesSend message =
-      MakesSend (TrySend message) after_try_send (send_turn.IsFirst message)
+      MakesSend (TrySend message) after_try_send (send_turn.IsFirstAnswer message)
 
   -- the first turn of a send arm, by whether it may park
   abbrev pub BeginsSend : Bool → T → ArmNext → SendState T → Type 0
@@ -57,7 +57,7 @@ module _ {T : Type 0} (A : Type 0) where
   -- a parked send arm is polled
   abbrev pub PollsSend : ℕ → ArmNext → SendState T → Type 0
   PollsSend ticket = MakesSend (step_of_parked_send ticket false) (after_parked_send ticket false)
-      (send_turn.IsAgain ticket false)
+      (send_turn.IsParkedAnswer ticket false)
 
   -- a turn of a send arm, by whether it may park
   abbrev pub SendTurn : Bool → SendState T → ArmNext → SendState T → Type 0
@@ -83,12 +83,12 @@ module _ {T : Type 0} (A : Type 0) where
   -- a receive arm starts, or there was no memory for that
   abbrev pub StartsReceive : ArmNext → ReceiveState T → Type 0
   StartsReceive answer new =
-      MakesReceive (Recv Arm) after_recv receive_turn.IsParking answer new
+      MakesReceive (Recv Arm) after_recv receive_turn.IsParkingAnswer answer new
       ⊎ ((answer ≡ next.NoMemory) × (new ≡ receiving.Finished))
 
   -- a receive arm is tried, and isn't parked
   abbrev pub TriesReceive : ArmNext → ReceiveState T → Type 0
-  TriesReceive = MakesReceive TryRecv after_try_recv receive_turn.IsFirst
+  TriesReceive = MakesReceive TryRecv after_try_recv receive_turn.IsFirstAnswer
 
   -- the first turn of a receive arm, by whether it may park
   abbrev pub BeginsReceive : Bool → ArmNext → ReceiveState T → Type 0
@@ -98,7 +98,7 @@ module _ {T : Type 0} (A : Type 0) where
   -- a parked receive arm is polled
   abbrev pub PollsReceive : ℕ → ArmNext → ReceiveState T → Type 0
   PollsReceive ticket = MakesReceive (step_of_parked_receive ticket false)
-      (after_parked_receive ticket false) (receive_turn.IsAgain ticket false)
+      (after_parked_receive ticket false) (receive_turn.IsParkedAnswer ticket false)
 
   -- a turn of a receive arm, by whether it may park
   abbrev pub ReceiveTurn : Bool → ReceiveState T → ArmNext → ReceiveState T → Type 0

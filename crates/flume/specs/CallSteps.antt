@@ -3,7 +3,7 @@ use Rattle.std.specs.Prelude.{◌≡◌, ◌⊎◌, ℕ, Bool, true, false, Opti
 use Rattle.flume_model.specs.declared.step.Step.{Step}
 use Rattle.flume_model.specs.declared.step.Step.TheVariants.{IsDisconnected, IsEmpty}
 use Rattle.flume_model.specs.declared.step.Reply.{Reply}
-use Rattle.flume_model.specs.declared.step.Reply.TheVariants.{Done as IsDone, NoEnd, Truth}
+use Rattle.flume_model.specs.declared.step.Reply.TheVariants.{Done as IsDone, NoEnd, Flag}
 use Rattle.flume_core.specs.declared.error.TrySendError.{TrySendError}
 use Rattle.flume_core.specs.declared.error.TrySendError.TheVariants as try_send
 use Rattle.flume_core.specs.declared.error.SendError.{SendError}
@@ -35,10 +35,10 @@ module _ {T A : Type 0} where
 module _ (T A : Type 0) where
   -- whether no more will come, by a channel's replies to two steps
   abbrev pub IsTerminated : Bool → Type 0
-  IsTerminated true = HasReplied {T = T} {A = A} IsDisconnected (Truth true)
-      × HasReplied {T = T} {A = A} IsEmpty (Truth true)
-  IsTerminated false = HasReplied {T = T} {A = A} IsDisconnected (Truth false)
-      ⊎ HasReplied {T = T} {A = A} IsEmpty (Truth false)
+  IsTerminated true = HasReplied {T = T} {A = A} IsDisconnected (Flag true)
+      × HasReplied {T = T} {A = A} IsEmpty (Flag true)
+  IsTerminated false = HasReplied {T = T} {A = A} IsDisconnected (Flag false)
+      ⊎ HasReplied {T = T} {A = A} IsEmpty (Flag false)
 
 module _ {T : Type 0} where
   -- the turn's answer to which a `try_send` answers so

@@ -30,21 +30,21 @@ module _ {T : Type 0} (A : Type 0) where
   pub record SendFirst (old : Deadline) (message : T) (new : Deadline) (next : SendNext T)
       : Type 0 where
     pub same : new ≡ old
-    pub answers : send.IsFirst message next
+    pub answers : send.IsFirstAnswer message next
     pub made : HasMade {A = A} (TrySend message) send.after_try_send next
 
   -- the turn that may park it makes a `send`
   pub record SendPark (old : Deadline) (message : T) (new : Deadline) (next : SendNext T)
       : Type 0 where
     pub same : new ≡ old
-    pub answers : send.IsParking message next
+    pub answers : send.IsParkingAnswer message next
     pub made : HasMade {A = A} (Send message) send.after_send next
 
   -- a turn of the parked send makes a `poll_send`, and at its deadline a `withdraw_send`
   pub record SendAgain (old : Deadline) (ticket : ℕ) (last : Bool) (new : Deadline)
       (next : SendNext T) : Type 0 where
     pub same : new ≡ old
-    pub answers : send.IsAgain ticket last next
+    pub answers : send.IsParkedAnswer ticket last next
     pub made : HasMade {A = A} (send.step_of_parked_send ticket last)
         (send.after_parked_send ticket last) next
 
@@ -56,22 +56,22 @@ module _ {T : Type 0} (A : Type 0) where
   -- a receive's first turn makes a `try_recv`
   pub record ReceiveFirst (old new : Deadline) (next : RecvNext T) : Type 0 where
     pub same : new ≡ old
-    pub answers : receive.IsFirst next
-    pub not_refused : receive.IsntRefused next
+    pub answers : receive.IsFirstAnswer next
+    pub not_refused : receive.HadMemory next
     pub made : HasMade {A = A} TryRecv receive.after_try_recv next
 
   -- the turn that may park it makes a `recv` of the kind that blocks
   pub record ReceivePark (old new : Deadline) (next : RecvNext T) : Type 0 where
     pub same : new ≡ old
-    pub answers : receive.IsParking next
+    pub answers : receive.IsParkingAnswer next
     pub made : HasMade {A = A} (Recv Block) receive.after_recv next
 
   -- a turn of the parked receive makes a `poll`, and at its deadline a `withdraw`
   pub record ReceiveAgain (old : Deadline) (ticket : ℕ) (last : Bool) (new : Deadline)
       (next : RecvNext T) : Type 0 where
     pub same : new ≡ old
-    pub answers : receive.IsAgain ticket last next
-    pub not_refused : receive.IsntRefused next
+    pub answers : receive.IsParkedAnswer ticket last next
+    pub not_refused : receive.HadMemory next
     pub made : HasMade {A = A} (receive.step_of_parked_receive ticket last)
         (receive.after_parked_receive ticket last) next
 

@@ -31,8 +31,8 @@ module _ {T A N : Type 0} where
 module _ {T A : Type 0} where
   -- if there was no memory for more, the list had less room than was asked for
   abbrev pub LacksRoom : Vec T A → ℕ → RecvNext ℕ → Type 0
-  LacksRoom into most (Done (Err NoMemory)) = vec_capacity into < vec_len into + most
-  LacksRoom into most _ = Unit {0}
+  LacksRoom buffer most (Done (Err NoMemory)) = vec_capacity buffer < vec_len buffer + most
+  LacksRoom buffer most _ = Unit {0}
 
 -- no message was there
 abbrev pub FindsNone : (T A : Type 0) → Type 0

@@ -20,7 +20,7 @@ module _ {T : Type 0} (A : Type 0) where
   -- a poll of a future or a sink that has this send
   pub record IsPollOfSend (old new : PolledSend T) (result : Poll (Result (Unit {0}) (SendError T)))
       : Type 0 where
-    pub after_ready : old ≡ Finished → result ≡ Ready (Ok tt)
+    pub ready_if_finished : old ≡ Finished → result ≡ Ready (Ok tt)
     pub polled : old ≢ Finished → HasPolledSend old new (answer_of result)
     pub finished : IfReady result (λ _. new ≡ Finished)
     pub parked : OnPending result ((ticket : ℕ) × (new ≡ Parked ticket))

@@ -61,7 +61,7 @@ pub(crate) fn send_answer<T: Drop>(
 
 #[inline(always)]
 pub(crate) fn try_receive_answer<T: Drop>(turn: RecvNext<T>) -> Result<T, TryRecvError>
-    requires first { receive.IsFirst turn }
+    requires first { receive.IsFirstAnswer turn }
     ensures turn { turn ≡ answer.try_receive_as_turn result }
 {
     match turn {

@@ -96,7 +96,7 @@ impl<T: Drop, R: Waits, A: Allocator + Copy> RecvGate<T> for Gate<'_, T, R, A> {
 
     ghost waits = { WaitsUpTo };
 
-    ghost is_ready = { λ _. ⊤ };
+    ghost can_park = { λ _. ⊤ };
 
     #[inline(always)]
     fn first(&mut self) -> RecvNext<T> {

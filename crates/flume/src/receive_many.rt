@@ -25,8 +25,8 @@ use std::sync::Arc;
 use std::time::{Duration, Instant};
 
 impl<T: Drop, R: Waits, A: Allocator + Copy> Receiver<T, R, A> {
-    /// Moves at most `most` messages to the end of `into`, and answers how many. A blocked send is
-    /// let in for each, and may come too. `NoMemory`: `into` can't grow. An error leaves it alone.
+    /// Moves at most `most` messages to the end of `buffer`, and counts them. A blocked send is
+    /// let in for each, and may come too. `NoMemory`: `buffer` can't grow. No error changes it.
     /// ```
     /// let (tx, rx) = flume::on(rt).unbounded()?;
     /// tx.send(1)?;
@@ -38,28 +38,29 @@ impl<T: Drop, R: Waits, A: Allocator + Copy> Receiver<T, R, A> {
     /// assert_eq!(rt; messages.as_slice(), [1, 2, 3].as_slice());
     /// assert_eq!(rt; rx.try_recv_many(&mut messages, 2), Err(TryRecvError::Empty));
     /// ```
-    pub fn try_recv_many(&self, into: &mut Vec<T, A>, most: usize) -> Result<usize, TryRecvError>
+    pub fn try_recv_many(&self, buffer: &mut Vec<T, A>, most: usize) -> Result<usize, TryRecvError>
         ensures made { 0 < most
-            → ReceivesBatch A into.old.items into.new.items (answer.try_receive_as_turn result) }
-        ensures appended { IfOk result (Appends most into.old.items into.new.items) }
-        ensures unchanged { OnErr result (into.new.items ≡ into.old.items) }
+            → ReceivesBatch A buffer.old.items buffer.new.items
+            (answer.try_receive_as_turn result) }
+        ensures appended { IfOk result (Appends most buffer.old.items buffer.new.items) }
+        ensures unchanged { OnErr result (buffer.new.items ≡ buffer.old.items) }
         ensures none { most ≡ 0 → result ≡ Ok 0 }
         ensures no_memory { result ≡ Err TryRecvError.NoMemory
-            → vec_capacity into.old < vec_len into.old + most }
+            → vec_capacity buffer.old < vec_len buffer.old + most }
     {
         if most == 0 {
             return Ok(0);
         }
-        let list = replace(into, Vec::new(self.shared().alloc));
-        let ManyNext { into: list, next } = self
+        let list = replace(buffer, Vec::new(self.shared().alloc));
+        let ManyNext { buffer: list, next } = self
             .shared()
-            .call_many(FirstReceiveMany { into: list, most });
-        *into = list;
+            .call_many(FirstReceiveMany { buffer: list, most });
+        *buffer = list;
         try_receive_answer(next)
     }
 
     /// As `try_recv_many`, but waits for the first message unless `most` is 0. `NoMemory` also if
-    /// there was none to wait. If `into` can't grow after a wait, it takes what there is room for.
+    /// there was none to wait. If `buffer` can't grow after a wait, it takes what it has room for.
     /// ```
     /// let (tx, rx) = flume::on(rt).unbounded()?;
     /// tx.send(1)?;
@@ -70,16 +71,16 @@ impl<T: Drop, R: Waits, A: Allocator + Copy> Receiver<T, R, A> {
     /// drop(tx);
     /// assert_eq!(rt; rx.recv_many(&mut messages, 64), Err(RecvError::Disconnected));
     /// ```
-    pub fn recv_many(&self, into: &mut Vec<T, A>, most: usize) -> Result<usize, RecvError>
-        ensures made { 0 < most → ReceivesMany A into.old.items into.new.items
+    pub fn recv_many(&self, buffer: &mut Vec<T, A>, most: usize) -> Result<usize, RecvError>
+        ensures made { 0 < most → ReceivesMany A buffer.old.items buffer.new.items
             (answer.receive_as_timed result) }
-        ensures appended { IfOk result (Appends most into.old.items into.new.items) }
-        ensures unchanged { OnErr result (into.new.items ≡ into.old.items) }
+        ensures appended { IfOk result (Appends most buffer.old.items buffer.new.items) }
+        ensures unchanged { OnErr result (buffer.new.items ≡ buffer.old.items) }
         ensures none { most ≡ 0 → result ≡ Ok 0 }
         ensures no_memory { result ≡ Err RecvError.NoMemory
-            → (vec_capacity into.old < vec_len into.old + most) ⊎ FindsNone T A }
+            → (vec_capacity buffer.old < vec_len buffer.old + most) ⊎ FindsNone T A }
     {
-        receive_answer(self.recv_many_until(into, most, Deadline::Never))
+        receive_answer(self.recv_many_until(buffer, most, Deadline::Never))
     }
 
     /// As `recv_many`, waiting up to the deadline, as `recv_deadline` does.
@@ -92,65 +93,65 @@ impl<T: Drop, R: Waits, A: Allocator + Copy> Receiver<T, R, A> {
     /// ```
     pub fn recv_many_deadline(
         &self,
-        into: &mut Vec<T, A>,
+        buffer: &mut Vec<T, A>,
         most: usize,
         deadline: Instant,
     ) -> Result<usize, RecvTimeoutError>
-        ensures made { 0 < most → ReceivesMany A into.old.items into.new.items result }
-        ensures appended { IfOk result (Appends most into.old.items into.new.items) }
-        ensures unchanged { OnErr result (into.new.items ≡ into.old.items) }
+        ensures made { 0 < most → ReceivesMany A buffer.old.items buffer.new.items result }
+        ensures appended { IfOk result (Appends most buffer.old.items buffer.new.items) }
+        ensures unchanged { OnErr result (buffer.new.items ≡ buffer.old.items) }
         ensures none { most ≡ 0 → result ≡ Ok 0 }
         ensures no_memory { result ≡ Err RecvTimeoutError.NoMemory
-            → (vec_capacity into.old < vec_len into.old + most) ⊎ FindsNone T A }
+            → (vec_capacity buffer.old < vec_len buffer.old + most) ⊎ FindsNone T A }
     {
-        self.recv_many_until(into, most, Deadline::At(deadline))
+        self.recv_many_until(buffer, most, Deadline::At(deadline))
     }
 
     /// As `recv_many_deadline`, so long from now, as of `recv_timeout`.
     pub fn recv_many_timeout(
         &self,
-        into: &mut Vec<T, A>,
+        buffer: &mut Vec<T, A>,
         most: usize,
         timeout: Duration,
     ) -> Result<usize, RecvTimeoutError>
-        ensures made { 0 < most → ReceivesMany A into.old.items into.new.items result }
-        ensures appended { IfOk result (Appends most into.old.items into.new.items) }
-        ensures unchanged { OnErr result (into.new.items ≡ into.old.items) }
+        ensures made { 0 < most → ReceivesMany A buffer.old.items buffer.new.items result }
+        ensures appended { IfOk result (Appends most buffer.old.items buffer.new.items) }
+        ensures unchanged { OnErr result (buffer.new.items ≡ buffer.old.items) }
         ensures none { most ≡ 0 → result ≡ Ok 0 }
         ensures no_memory { result ≡ Err RecvTimeoutError.NoMemory
-            → (vec_capacity into.old < vec_len into.old + most) ⊎ FindsNone T A }
+            → (vec_capacity buffer.old < vec_len buffer.old + most) ⊎ FindsNone T A }
     {
         let deadline = Deadline::after(&self.shared().rt, timeout);
-        self.recv_many_until(into, most, deadline)
+        self.recv_many_until(buffer, most, deadline)
     }
 
     fn recv_many_until(
         &self,
-        into: &mut Vec<T, A>,
+        buffer: &mut Vec<T, A>,
         most: usize,
         deadline: Deadline,
     ) -> Result<usize, RecvTimeoutError>
-        ensures made { 0 < most → ReceivesMany A into.old.items into.new.items result }
-        ensures appended { IfOk result (Appends most into.old.items into.new.items) }
-        ensures unchanged { OnErr result (into.new.items ≡ into.old.items) }
+        ensures made { 0 < most → ReceivesMany A buffer.old.items buffer.new.items result }
+        ensures appended { IfOk result (Appends most buffer.old.items buffer.new.items) }
+        ensures unchanged { OnErr result (buffer.new.items ≡ buffer.old.items) }
         ensures none { most ≡ 0 → result ≡ Ok 0 }
         ensures no_memory { result ≡ Err RecvTimeoutError.NoMemory
-            → (vec_capacity into.old < vec_len into.old + most) ⊎ FindsNone T A }
+            → (vec_capacity buffer.old < vec_len buffer.old + most) ⊎ FindsNone T A }
         ensures in_time { deadline ≡ Never → result ≢ Err RecvTimeoutError.Timeout }
     {
         if most == 0 {
             return Ok(0);
         }
-        let list = replace(into, Vec::new(self.shared().alloc));
+        let list = replace(buffer, Vec::new(self.shared().alloc));
         let mut gate = ManyGate {
             shared: self.shared(),
             deadline,
-            into: list,
+            buffer: list,
             most,
         };
         let answer = recv_over(&self.shared().rt, &mut gate);
-        let ManyGate { into: list, .. } = gate;
-        *into = list;
+        let ManyGate { buffer: list, .. } = gate;
+        *buffer = list;
         answer
     }
 }
@@ -159,7 +160,7 @@ impl<T: Drop, R: Waits, A: Allocator + Copy> Receiver<T, R, A> {
 struct ManyGate<'a, T, R: Waits, A: Allocator + Copy> {
     shared: &'a Shared<T, R, A>,
     deadline: Deadline,
-    into: Vec<T, A>,
+    buffer: Vec<T, A>,
     most: usize,
     ghost some: { 0 < most },
 }
@@ -170,18 +171,20 @@ impl<T: Drop, R: Waits, A: Allocator + Copy> ManyGate<'_, T, R, A> {
     fn receive_and_more<C>(&mut self, turn: C) -> RecvNext<usize>
     where
         C: Turn<T, Signal<A>, A, Answer = RecvNext<T>> + Drop,
-        requires room { vec_len self.old.into < vec_capacity self.old.into }
+        requires room { vec_len self.old.buffer < vec_capacity self.old.buffer }
         ensures deadline { self.new.deadline ≡ self.old.deadline }
         ensures most { self.new.most ≡ self.old.most }
         ensures answers { AnswersMany (C.answers turn) result }
         ensures made { AnswersMany (HasDone A (C.does turn)) result }
-        ensures grows { GrowsBy self.old.most self.old.into.items self.new.into.items result }
-        ensures room { IsntDone result → vec_len self.new.into < vec_capacity self.new.into }
+        ensures grows { GrowsBy self.old.most self.old.buffer.items self.new.buffer.items result }
+        ensures room { IsntDone result → vec_len self.new.buffer < vec_capacity self.new.buffer }
     {
-        let into = replace(&mut self.into, Vec::new(self.shared.alloc));
+        let buffer = replace(&mut self.buffer, Vec::new(self.shared.alloc));
         let more = self.most - 1;
-        let ManyNext { into, next } = self.shared.call_many(ReceiveAndMore { turn, into, more });
-        self.into = into;
+        let ManyNext { buffer, next } = self
+            .shared
+            .call_many(ReceiveAndMore { turn, buffer, more });
+        self.buffer = buffer;
         next
     }
 }
@@ -197,42 +200,43 @@ impl<T: Drop, R: Waits, A: Allocator + Copy> RecvGate<usize> for ManyGate<'_, T,
     type Signal = Signal<A>;
 
     ghost first_turn = { λ old new next.
-        (new.deadline ≡ old.deadline) × (new.most ≡ old.most) × receive.IsFirst next
-        × GrowsBy old.most old.into.items new.into.items next
-        × ReceivesBatch A old.into.items new.into.items next × LacksRoom old.into old.most next };
+        (new.deadline ≡ old.deadline) × (new.most ≡ old.most) × receive.IsFirstAnswer next
+        × GrowsBy old.most old.buffer.items new.buffer.items next
+        × ReceivesBatch A old.buffer.items new.buffer.items next
+        × LacksRoom old.buffer old.most next };
 
     ghost makes = { λ old new _. (new.deadline ≡ old.deadline) × (new.most ≡ old.most)
-        × (new.into.items ≡ old.into.items) };
+        × (new.buffer.items ≡ old.buffer.items) };
 
     ghost parking_turn = { λ old new next.
-        (new.deadline ≡ old.deadline) × (new.most ≡ old.most) × receive.IsParking next
-        × GrowsBy old.most old.into.items new.into.items next
+        (new.deadline ≡ old.deadline) × (new.most ≡ old.most) × receive.IsParkingAnswer next
+        × GrowsBy old.most old.buffer.items new.buffer.items next
         × MakesMany {T = T} A (Recv Block) receive.after_recv next };
 
     ghost parked_turn = { λ old ticket last new next.
         (new.deadline ≡ old.deadline) × (new.most ≡ old.most)
-        × receive.IsAgain ticket last next × receive.IsntRefused next
-        × GrowsBy old.most old.into.items new.into.items next
+        × receive.IsParkedAnswer ticket last next × receive.HadMemory next
+        × GrowsBy old.most old.buffer.items new.buffer.items next
         × MakesMany {T = T} A (receive.step_of_parked_receive ticket last)
         (receive.after_parked_receive ticket last) next };
 
     ghost waits = { λ old new expired.
         (new.deadline ≡ old.deadline) × (new.most ≡ old.most)
-        × (new.into.items ≡ old.into.items) × (expired ≡ true → old.deadline ≢ Never) };
+        × (new.buffer.items ≡ old.buffer.items) × (expired ≡ true → old.deadline ≢ Never) };
 
-    ghost is_ready = { λ gate. vec_len gate.into < vec_capacity gate.into };
+    ghost can_park = { λ gate. vec_len gate.buffer < vec_capacity gate.buffer };
 
     fn first(&mut self) -> RecvNext<usize> {
-        let into = replace(&mut self.into, Vec::new(self.shared.alloc));
+        let buffer = replace(&mut self.buffer, Vec::new(self.shared.alloc));
         let most = self.most;
-        let ManyNext { into, next } = self.shared.call_many(FirstReceiveMany { into, most });
-        self.into = into;
+        let ManyNext { buffer, next } = self.shared.call_many(FirstReceiveMany { buffer, most });
+        self.buffer = buffer;
         next
     }
 
     // With room for one message, so that the parked call can always take what it is woken for.
     fn make_waiter(&mut self) -> Option<(Arc<Parker, A>, Signal<A>)> {
-        self.into.try_reserve(1).ok()?;
+        self.buffer.try_reserve(1).ok()?;
         self.shared.new_parker()
     }
 

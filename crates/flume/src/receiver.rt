@@ -19,7 +19,7 @@ use crate::iterators::{Iter, TryIter};
 use crate::shared::{Shared, Waits};
 use flume_calls::calls::{FirstReceive, RecvNext};
 use flume_calls::gates::{recv_over, waiting_receive};
-use flume_calls::single::{AskNumber, AskTruth, Single};
+use flume_calls::single::{CountQuery, FlagQuery, SingleStep};
 use flume_core::error::{CapacityError, NoMemory, RecvError, RecvTimeoutError, TryRecvError};
 use flume_deadline::Deadline;
 use flume_model::step::{Reply, Step};
@@ -154,7 +154,7 @@ impl<T: Drop, R: Waits, A: Allocator + Copy> Receiver<T, R, A> {
     pub fn drain(&self) -> Result<Drain<'_, T, A>, NoMemory>
         ensures made { HasMade {A = A} Step.Drain after_drain result }
     {
-        Drain::answer(self.shared.single(Single::Drain))
+        Drain::answer(self.shared.single(SingleStep::Drain))
     }
 
     #[inline(always)]
@@ -166,21 +166,21 @@ impl<T: Drop, R: Waits, A: Allocator + Copy> Receiver<T, R, A> {
     pub fn len(&self) -> usize
         ensures made { HasReplied {T = T} {A = A} Step.Len (Reply.Number result) }
     {
-        self.shared.number(AskNumber::Len)
+        self.shared.number(CountQuery::Len)
     }
 
     /// Whether no message is queued.
     pub fn is_empty(&self) -> bool
-        ensures made { HasReplied {T = T} {A = A} Step.IsEmpty (Reply.Truth result) }
+        ensures made { HasReplied {T = T} {A = A} Step.IsEmpty (Reply.Flag result) }
     {
-        self.shared.truth(AskTruth::IsEmpty)
+        self.shared.flag(FlagQuery::IsEmpty)
     }
 
     /// Whether a bounded channel's queue is at or past its capacity.
     pub fn is_full(&self) -> bool
-        ensures made { HasReplied {T = T} {A = A} Step.IsFull (Reply.Truth result) }
+        ensures made { HasReplied {T = T} {A = A} Step.IsFull (Reply.Flag result) }
     {
-        self.shared.truth(AskTruth::IsFull)
+        self.shared.flag(FlagQuery::IsFull)
     }
 
     /// The capacity, or `None` if unbounded.
@@ -202,21 +202,21 @@ impl<T: Drop, R: Waits, A: Allocator + Copy> Receiver<T, R, A> {
     pub fn sender_count(&self) -> usize
         ensures made { HasReplied {T = T} {A = A} Step.SenderCount (Reply.Number result) }
     {
-        self.shared.number(AskNumber::SenderCount)
+        self.shared.number(CountQuery::SenderCount)
     }
 
     /// How many receivers live.
     pub fn receiver_count(&self) -> usize
         ensures made { HasReplied {T = T} {A = A} Step.ReceiverCount (Reply.Number result) }
     {
-        self.shared.number(AskNumber::ReceiverCount)
+        self.shared.number(CountQuery::ReceiverCount)
     }
 
     /// Whether all receivers, or all senders, have been dropped.
     pub fn is_disconnected(&self) -> bool
-        ensures made { HasReplied {T = T} {A = A} Step.IsDisconnected (Reply.Truth result) }
+        ensures made { HasReplied {T = T} {A = A} Step.IsDisconnected (Reply.Flag result) }
     {
-        self.shared.truth(AskTruth::IsDisconnected)
+        self.shared.flag(FlagQuery::IsDisconnected)
     }
 
     /// Whether both receive from channels of the same number.
@@ -259,7 +259,7 @@ impl<T: Drop, R: Waits, A: Allocator + Copy> Clone for Receiver<T, R, A> {
         ensures made { IfOk result (λ _. HasReplied {T = T} {A = A} Step.CloneReceiver Reply.Done) }
     {
         let shared = Arc::try_clone(&self.shared)?;
-        match shared.single(Single::CloneReceiver) {
+        match shared.single(SingleStep::CloneReceiver) {
             Reply::Done => Ok(Receiver { shared }),
             _ => Err(AllocError),
         }
@@ -275,6 +275,6 @@ impl<T: Drop, R: Waits, A: Allocator + Copy> fmt::Debug for Receiver<T, R, A> {
 impl<T: Drop, R: Waits, A: Allocator + Copy> Drop for Receiver<T, R, A> {
     fn drop(self) {
         let Self { shared } = self;
-        shared.single(Single::DropReceiver);
+        shared.single(SingleStep::DropReceiver);
     }
 }

@@ -15,7 +15,7 @@ use crate::shared::{Shared, Waits};
 use crate::weak::WeakSender;
 use flume_calls::calls::{FirstSend, SendNext};
 use flume_calls::gates::{send_over, waiting_send};
-use flume_calls::single::{AskNumber, AskTruth, Single};
+use flume_calls::single::{CountQuery, FlagQuery, SingleStep};
 use flume_core::error::{CapacityError, NoMemory, SendError, SendTimeoutError, TrySendError};
 use flume_deadline::Deadline;
 use flume_model::step::{Reply, Step};
@@ -149,21 +149,21 @@ impl<T: Drop, R: Waits, A: Allocator + Copy> Sender<T, R, A> {
     pub fn len(&self) -> usize
         ensures made { HasReplied {T = T} {A = A} Step.Len (Reply.Number result) }
     {
-        self.shared.number(AskNumber::Len)
+        self.shared.number(CountQuery::Len)
     }
 
     /// Whether no message is queued.
     pub fn is_empty(&self) -> bool
-        ensures made { HasReplied {T = T} {A = A} Step.IsEmpty (Reply.Truth result) }
+        ensures made { HasReplied {T = T} {A = A} Step.IsEmpty (Reply.Flag result) }
     {
-        self.shared.truth(AskTruth::IsEmpty)
+        self.shared.flag(FlagQuery::IsEmpty)
     }
 
     /// Whether a bounded channel's queue is at or past its capacity.
     pub fn is_full(&self) -> bool
-        ensures made { HasReplied {T = T} {A = A} Step.IsFull (Reply.Truth result) }
+        ensures made { HasReplied {T = T} {A = A} Step.IsFull (Reply.Flag result) }
     {
-        self.shared.truth(AskTruth::IsFull)
+        self.shared.flag(FlagQuery::IsFull)
     }
 
     /// The capacity, or `None` if unbounded.
@@ -193,21 +193,21 @@ impl<T: Drop, R: Waits, A: Allocator + Copy> Sender<T, R, A> {
     pub fn sender_count(&self) -> usize
         ensures made { HasReplied {T = T} {A = A} Step.SenderCount (Reply.Number result) }
     {
-        self.shared.number(AskNumber::SenderCount)
+        self.shared.number(CountQuery::SenderCount)
     }
 
     /// How many receivers live.
     pub fn receiver_count(&self) -> usize
         ensures made { HasReplied {T = T} {A = A} Step.ReceiverCount (Reply.Number result) }
     {
-        self.shared.number(AskNumber::ReceiverCount)
+        self.shared.number(CountQuery::ReceiverCount)
     }
 
     /// Whether all receivers, or all senders, have been dropped.
     pub fn is_disconnected(&self) -> bool
-        ensures made { HasReplied {T = T} {A = A} Step.IsDisconnected (Reply.Truth result) }
+        ensures made { HasReplied {T = T} {A = A} Step.IsDisconnected (Reply.Flag result) }
     {
-        self.shared.truth(AskTruth::IsDisconnected)
+        self.shared.flag(FlagQuery::IsDisconnected)
     }
 
     /// A sender that doesn't keep the channel open. `NoMemory`: no more ends can be counted.
@@ -251,7 +251,7 @@ impl<T: Drop, R: Waits, A: Allocator + Copy> Clone for Sender<T, R, A> {
         ensures made { IfOk result (λ _. HasReplied {T = T} {A = A} Step.CloneSender Reply.Done) }
     {
         let shared = Arc::try_clone(&self.shared)?;
-        match shared.single(Single::CloneSender) {
+        match shared.single(SingleStep::CloneSender) {
             Reply::Done => Ok(Sender { shared }),
             _ => Err(AllocError),
         }
@@ -267,6 +267,6 @@ impl<T: Drop, R: Waits, A: Allocator + Copy> fmt::Debug for Sender<T, R, A> {
 impl<T: Drop, R: Waits, A: Allocator + Copy> Drop for Sender<T, R, A> {
     fn drop(self) {
         let Self { shared } = self;
-        shared.single(Single::DropSender);
+        shared.single(SingleStep::DropSender);
     }
 }

@@ -1,16 +1,16 @@
 //! Calls of one step that never wait.
 ghost use Rattle.flume_core.specs.PossibleReply.{PossibleReply};
-ghost use Rattle.flume_calls.specs.Singles.{step_of, step_for_number, step_for_truth};
+ghost use Rattle.flume_calls.specs.Singles.{step_of, count_query_step, flag_query_step};
 ghost use Rattle.flume.specs.CallSteps.{HasReplied};
 
 use crate::shared::{Shared, Waits};
-use flume_calls::single::{AskCapacity, AskNumber, AskTruth, Single};
+use flume_calls::single::{CapacityQuery, CountQuery, FlagQuery, SingleStep};
 use flume_model::step::{Reply, Step};
 use std::alloc::Allocator;
 
 impl<T: Drop, R: Waits, A: Allocator + Copy> Shared<T, R, A> {
     #[inline(always)]
-    pub(crate) fn single(&self, step: Single) -> Reply<T, A>
+    pub(crate) fn single(&self, step: SingleStep) -> Reply<T, A>
         ensures made { HasReplied (step_of step) result }
         ensures possible { PossibleReply {T = T} (step_of step) result }
     {
@@ -18,15 +18,15 @@ impl<T: Drop, R: Waits, A: Allocator + Copy> Shared<T, R, A> {
     }
 
     #[inline(always)]
-    pub(crate) fn number(&self, query: AskNumber) -> usize
-        ensures made { HasReplied {T = T} {A = A} (step_for_number query) (Reply.Number result) }
+    pub(crate) fn number(&self, query: CountQuery) -> usize
+        ensures made { HasReplied {T = T} {A = A} (count_query_step query) (Reply.Number result) }
     {
         self.call(query)
     }
 
     #[inline(always)]
-    pub(crate) fn truth(&self, query: AskTruth) -> bool
-        ensures made { HasReplied {T = T} {A = A} (step_for_truth query) (Reply.Truth result) }
+    pub(crate) fn flag(&self, query: FlagQuery) -> bool
+        ensures made { HasReplied {T = T} {A = A} (flag_query_step query) (Reply.Flag result) }
     {
         self.call(query)
     }
@@ -35,6 +35,6 @@ impl<T: Drop, R: Waits, A: Allocator + Copy> Shared<T, R, A> {
     pub(crate) fn capacity(&self) -> Option<usize>
         ensures made { HasReplied {T = T} {A = A} Step.Capacity (Reply.Capacity result) }
     {
-        self.call(AskCapacity)
+        self.call(CapacityQuery)
     }
 }

@@ -4,7 +4,7 @@ ghost use Rattle.flume.specs.CallSteps.{HasReplied, upgrade_reply};
 
 use crate::sender::Sender;
 use crate::shared::{Shared, Waits};
-use flume_calls::single::Single;
+use flume_calls::single::SingleStep;
 use flume_core::error::NoMemory;
 use flume_model::step::{Reply, Step};
 use std::alloc::{AllocError, Allocator, Global};
@@ -46,7 +46,7 @@ impl<T: Drop, R: Waits, A: Allocator + Copy> WeakSender<T, R, A> {
             HasReplied {T = T} {A = A} Step.CloneSender (upgrade_reply sender)) }
     {
         let shared = Arc::try_clone(&self.shared)?;
-        let reply = shared.single(Single::CloneSender);
+        let reply = shared.single(SingleStep::CloneSender);
         upgrade_answer(reply, shared)
     }
 }

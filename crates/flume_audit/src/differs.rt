@@ -104,13 +104,13 @@ fn has_receipt_at<T: Eq, A: Allocator, H: AsSlice<Receipt<T, A>>>(
     ensures sole { result ≡ has_one_receipt ⟦<(Step<T>, Reply<T, A>) as PartialEq>⟧.eq entry.now
         (receipts_at number (map H.items seats.now)) }
 {
-    match only_receipt_at(number, seats) {
+    match sole_receipt_at(number, seats) {
         Some(receipt) => is_receipt_of(receipt, entry),
         None => false,
     }
 }
 
-fn only_receipt_at<T, A: Allocator, H: AsSlice<Receipt<T, A>>>(
+fn sole_receipt_at<T, A: Allocator, H: AsSlice<Receipt<T, A>>>(
     number: usize,
     seats: &[H],
 ) -> Option<&Receipt<T, A>>

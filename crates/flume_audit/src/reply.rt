@@ -35,7 +35,7 @@ pub(crate) fn copy_reply<T: Copy, A: Allocator>(reply: &Reply<T, A>, room: Vec<T
         Reply::NoEnd => Reply::NoEnd,
         Reply::CountFull => Reply::CountFull,
         Reply::Number(number) => Reply::Number(number),
-        Reply::Truth(truth) => Reply::Truth(truth),
+        Reply::Flag(flag) => Reply::Flag(flag),
         Reply::Capacity(capacity) => Reply::Capacity(capacity),
         Reply::Unbounded => Reply::Unbounded,
     }

@@ -10,7 +10,7 @@ use Rattle.flume_model.specs.declared.step.Reply.{Reply}
 use Rattle.flume_model.specs.declared.step.Reply.TheVariants.{Got}
 use Rattle.flume_state.specs.Messages.{Blocked}
 use Rattle.flume_state.specs.State.{State, message_count}
-use Rattle.flume_state.specs.Effects.{with_front, with_front_of, after_admission, after_admission_of, after_refill, after_take}
+use Rattle.flume_state.specs.Effects.{with_front, with_front_of, after_admission, after_admission_of, after_admission_if_room, after_take}
 use Rattle.flume_state.specs.Due.{BecomesDue}
 use Rattle.flume_core.specs.Represents.{Extends, IsReachable, IsRefusal}
 use Rattle.flume_core.specs.PossibleReply.{PossibleReply}
@@ -57,10 +57,10 @@ module _ {T S : Type 0} where
       go [] queued = ap (λ q. message_count (with_front_of q s)) queued ∙ admission_keeps s
       go (m ∷ rest) queued = ap (λ q. message_count (with_front_of q s)) queued
 
-  refill_keeps : (s : State T S) → message_count (after_refill s) ≡ message_count s
-  refill_keeps s = go (not (is_full s.capacity (length s.queue))) refl
+  admit_if_room_keeps : (s : State T S) → message_count (after_admission_if_room s) ≡ message_count s
+  admit_if_room_keeps s = go (not (is_full s.capacity (length s.queue))) refl
     where
-      go : (b : Bool) → not (is_full s.capacity (length s.queue)) ≡ b → message_count (after_refill s) ≡ message_count s
+      go : (b : Bool) → not (is_full s.capacity (length s.queue)) ≡ b → message_count (after_admission_if_room s) ≡ message_count s
       go true e = ap (λ b. message_count (if b then after_admission s else s)) e ∙ admission_keeps s
       go false e = ap (λ b. message_count (if b then after_admission s else s)) e
 
@@ -69,7 +69,7 @@ module _ {T S : Type 0} where
       → message_count (after_take rest s) + 1 ≡ message_count s
   taken_one s message rest e =
       let left : message_count (after_take rest s) ≡ length rest + length (with_front s).blocked =
-      refill_keeps (record (with_front s) { queue = rest }) in
+      admit_if_room_keeps (record (with_front s) { queue = rest }) in
       let front : length (with_front s).queue ≡ length (message ∷ rest) = ap length e in
       let kept : message_count (with_front s) ≡ message_count s = front_keeps s in omega arith
 

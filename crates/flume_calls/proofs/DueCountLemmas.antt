@@ -9,7 +9,7 @@ use Rattle.std.specs.Option.{is_some, option_map}
 use Rattle.std.specs.Ordering.{nat_cmp, eq_by_cmp}
 use Rattle.flume_state.specs.declared.sends.LiveSend.{LiveSend}
 use Rattle.flume_state.specs.Notices.{no_longer_due}
-use Rattle.flume_state.specs.Sends.{SendMap, noticed_send, send_due_in, is_due_send}
+use Rattle.flume_state.specs.Sends.{SendMap, with_send_notice, send_due_in, is_due_send}
 use Rattle.flume_state.specs.Receivers.{EntryList, NamesReceiver}
 use Rattle.flume_state.proofs.SendMapLemmas.{get-changed_same, get-changed_other}
 use Rattle.flume_state.specs.State.{State}
@@ -37,17 +37,17 @@ module _ {S : Type 0} where
   is_not_due (Some send) = refl
 
   -- a ticket that was named isn't due in the map
-  named_not_due : (m : SendMap S) (k : ℕ) → is_due_send (noticed_send no_longer_due k m) k ≡ false
+  named_not_due : (m : SendMap S) (k : ℕ) → is_due_send (with_send_notice no_longer_due k m) k ≡ false
   named_not_due m k = ap send_due_in (get-changed_same m k send_not_due) ∙ is_not_due (get m k)
 
   -- if one was named, no other became due
-  pub none_became_due : (m : SendMap S) (k : ℕ) → DueIn (noticed_send no_longer_due k m) m
+  pub none_became_due : (m : SendMap S) (k : ℕ) → DueIn (with_send_notice no_longer_due k m) m
   none_became_due m k t due = go (eqb t k) refl
     where
       go : (b : Bool) → eqb t k ≡ b → is_due_send m t ≡ true
       go true e =
           let same : t ≡ k = eqb-true t k e in
-          let over : is_due_send (noticed_send no_longer_due k m) t ≡ false = rw same (named_not_due m k) in
+          let over : is_due_send (with_send_notice no_longer_due k m) t ≡ false = rw same (named_not_due m k) in
           absurd (let none : ⊥ = cc in none)
       go false e = rw (← get-changed_other m k send_not_due t (eqb-false t k e)) due
 
@@ -107,7 +107,8 @@ module _ {T S : Type 0} where
   pub fewer_due : (first old new : State T S) (t : ℕ) → NamesDueTicket old new t → DueIn old.sends first.sends
       → due_sends new.sends (keys first.sends) + due_entries new.entries < due_sends old.sends (keys first.sends) + due_entries old.entries
   fewer_due first old new t (Send due is) before =
-      let less = due_sends_less old.sends (noticed_send no_longer_due t old.sends) t (keys first.sends) (none_became_due old.sends t) due
+      let less = due_sends_less old.sends (with_send_notice no_longer_due t old.sends) t (keys first.sends)
+      (none_became_due old.sends t) due
       (named_not_due old.sends t) (due_listed first.sends t (before t due)) in
       rw is (omega (arith, less))
   fewer_due first old new t (Receive tells is) before =
@@ -119,7 +120,7 @@ module _ {T S : Type 0} where
   pub still_due_before : (first old new : State T S) (t : ℕ) → NamesDueTicket old new t → DueIn old.sends first.sends
       → DueIn new.sends first.sends
   still_due_before first old new t (Send due is) before k now =
-      let same : new.sends ≡ noticed_send no_longer_due t old.sends = ap (λ s. s.sends) is in
+      let same : new.sends ≡ with_send_notice no_longer_due t old.sends = ap (λ s. s.sends) is in
       before k (none_became_due old.sends t k (rw same at now))
   still_due_before first old new t (Receive tells is) before k now =
       let same : new.sends ≡ old.sends = ap (λ s. s.sends) is in before k (rw same at now)

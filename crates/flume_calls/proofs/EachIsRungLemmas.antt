@@ -181,15 +181,15 @@ module _ {T A S : Type 0} where
   -- the ticket of a live send, or of a parked receiver, was issued
   send_below : (o : Opening) (log : Log T A) (s : State T S) → Represents o log s → (t : ℕ) (accepted : Bool)
       → accepted_at s t ≡ Some accepted
-      → t < s.next
+      → t < s.next_ticket
   send_below o log s h t accepted e =
       let live = (live_by _ _ accepted (sym (h.sends_are t) ∙ e)).0 in rw h.next_is (sides_apart o log h.run t live).0
 
   receiver_below : (o : Opening) (log : Log T A) (s : State T S) → Represents o log s → (t : ℕ) (m : Mark T) → mark_at s t ≡ Some m
-      → t < s.next
+      → t < s.next_ticket
   receiver_below o log s h t m e = by_case (entry_of t s.entries) refl
     where
-      by_case : (found : Option (Entry T (Notice S))) → entry_of t s.entries ≡ found → t < s.next
+      by_case : (found : Option (Entry T (Notice S))) → entry_of t s.entries ≡ found → t < s.next_ticket
       by_case None is = let none = rw is at e in absurd (let no : ⊥ = cc in no)
       by_case (Some x) is =
           rw h.next_is (found_below (next_ticket o log) t (bare x) (entries o log) (entry_at_log h t ∙ ap (option_map bare) is)

@@ -10,7 +10,7 @@ use Rattle.flume_model.specs.Log.{Log, Opening}
 use Rattle.flume_model.specs.Line.{blocked, is_live}
 use Rattle.flume_model.specs.Channel.{has_ticket}
 use Rattle.flume_model.specs.Entries.{entry_of, waiting_count, is_waiting}
-use Rattle.flume_model.specs.WaitLaws.{Apart}
+use Rattle.flume_model.specs.WaitLaws.{DistinctTickets}
 use Rattle.flume_state.specs.declared.notice.Notice.{Notice}
 use Rattle.flume_state.specs.declared.sends.LiveSend.{LiveSend}
 use Rattle.flume_state.specs.Sends.{send_due_in}
@@ -66,7 +66,7 @@ module _ {T S : Type 0} where
       this false is = is
 
   -- if the tickets are apart and none is due by its ticket, none is due
-  none_by_ticket : (bound : ℕ) (entries : EntryList T S) → Apart bound entries
+  none_by_ticket : (bound : ℕ) (entries : EntryList T S) → DistinctTickets bound entries
       → ((t : ℕ) → receiver_due_in (entry_of t entries) ≡ false) → NoDueReceiver entries
   none_by_ticket bound [] apart each = All-nil _
   none_by_ticket bound (e ∷ entries) apart each =
@@ -101,7 +101,7 @@ module _ {T A S : Type 0} where
 
   -- if no call waits, a turn of at most one step leads from a channel at rest to one at rest
   pub stays_at_rest : (old new : State T S) → IsAtRest A old → NoCallWaits old → AtMostOneStep A old new
-      → (IsReachable A new → (bound : ℕ) × Apart bound new.entries) → IsAtRest A new
+      → (IsReachable A new → (bound : ℕ) × DistinctTickets bound new.entries) → IsAtRest A new
   stays_at_rest old new rest no_call_waits (NoStep same) apart = subst (IsAtRest A) (sym same) rest
   stays_at_rest old new rest no_call_waits (OneStep step reply stepped) apart =
       let reachable : IsReachable A new =

@@ -10,7 +10,7 @@ use Rattle.flume_model.specs.declared.entry.Entry.{Entry}
 use Rattle.flume_state.specs.declared.notice.Notice.{Notice}
 use Rattle.flume_state.specs.declared.sends.LiveSend.{LiveSend}
 use Rattle.flume_state.specs.Notices.{no_longer_due}
-use Rattle.flume_state.specs.Sends.{SendMap, noticed_send, send_due_in, NoDueSend}
+use Rattle.flume_state.specs.Sends.{SendMap, with_send_notice, send_due_in, NoDueSend}
 use Rattle.flume_state.specs.Receivers.{EntryList, NoDueReceiver}
 use Rattle.flume_state.proofs.SendMapLemmas.{get-changed_same, get-changed_other}
 use Rattle.flume_state.specs.State.{State}
@@ -36,11 +36,12 @@ module _ {S : Type 0} where
 
   -- telling a ticket keeps the signal of each send
   signals_stay : (m : SendMap S) (k t : ℕ)
-      → option_map (λ send. send.notice.signal) (get (noticed_send no_longer_due k m) t) ≡ option_map (λ send. send.notice.signal) (get m t)
+      → option_map (λ send. send.notice.signal) (get (with_send_notice no_longer_due k m) t) ≡ option_map (λ send. send.notice.signal)
+      (get m t)
   signals_stay m k t = go (eqb t k) refl
     where
       go : (b : Bool) → eqb t k ≡ b
-          → option_map (λ send. send.notice.signal) (get (noticed_send no_longer_due k m) t) ≡ option_map (λ send. send.notice.signal)
+          → option_map (λ send. send.notice.signal) (get (with_send_notice no_longer_due k m) t) ≡ option_map (λ send. send.notice.signal)
           (get m t)
       go true e =
           let same : t ≡ k = eqb-true t k e in
@@ -58,11 +59,12 @@ module _ {S : Type 0} where
   idle_not_due (Some send) idle = ap (λ (b : Bool). Some (record send { notice = record send.notice { due = b } })) idle
 
   -- all named, with one named before
-  not_due_after : (m : SendMap S) (k t : ℕ) → option_map send_not_due (get (noticed_send no_longer_due k m) t) ≡ option_map send_not_due
+  not_due_after : (m : SendMap S) (k t : ℕ) → option_map send_not_due (get (with_send_notice no_longer_due k m) t) ≡ option_map send_not_due
       (get m t)
   not_due_after m k t = go (eqb t k) refl
     where
-      go : (b : Bool) → eqb t k ≡ b → option_map send_not_due (get (noticed_send no_longer_due k m) t) ≡ option_map send_not_due (get m t)
+      go : (b : Bool) → eqb t k ≡ b
+          → option_map send_not_due (get (with_send_notice no_longer_due k m) t) ≡ option_map send_not_due (get m t)
       go true e =
           let same : t ≡ k = eqb-true t k e in
           rw same (ap (option_map send_not_due) (get-changed_same m k send_not_due) ∙ not_due_twice (get m k))
@@ -140,7 +142,7 @@ module _ {T S : Type 0} where
   -- naming one leaves all else
   named_rest : (old named : State T S) (t : ℕ) → NamesDueTicket old named t
       → named ≡ record old { sends = named.sends; entries = named.entries }
-  named_rest old named t (Send due is) = rest_from old named (noticed_send no_longer_due t old.sends) old.entries is
+  named_rest old named t (Send due is) = rest_from old named (with_send_notice no_longer_due t old.sends) old.entries is
   named_rest old named t (Receive tells is) = rest_from old named old.sends named.entries is
 
   -- naming one leaves all sends, once named, the same

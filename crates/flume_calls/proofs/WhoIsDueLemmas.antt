@@ -19,7 +19,7 @@ use Rattle.flume_model.specs.Line.{next_ticket, is_live, issues, spends}
 use Rattle.flume_model.specs.Parked.{LogEntry, entries, is_closed_after}
 use Rattle.flume_model.specs.Channel.{Channel, channel}
 use Rattle.flume_model.specs.Replies.{IsRun}
-use Rattle.flume_model.specs.WaitLaws.{Apart}
+use Rattle.flume_model.specs.WaitLaws.{DistinctTickets}
 use Rattle.flume_model.proofs.Common.{ne_eqb}
 use Rattle.flume_model.proofs.AskingCaseLemmas.{Unfilled, polled_cases}
 use Rattle.flume_model.proofs.LawfulReplyLemmas.{Fits}
@@ -98,16 +98,17 @@ not_live false spent = refl
 
 module _ {T : Type 0} where
   -- a ticket below the next one is no other that a receiver parks under, or that a send blocks under
-  parks_other : (c : Channel T) (done : Change T) (t : ℕ) → Fits c done → t < c.next → parks_under done t ≡ false
-  parks_other c (Parks u kind) t h lt = let same : u ≡ c.next = h.3 in ne_eqb u t (λ e. omega arith)
+  parks_other : (c : Channel T) (done : Change T) (t : ℕ) → Fits c done → t < c.next_ticket → parks_under done t ≡ false
+  parks_other c (Parks u kind) t h lt = let same : u ≡ c.next_ticket = h.3 in ne_eqb u t (λ e. omega arith)
   parks_other c _ t h lt = refl
 
-  issues_other : (c : Channel T) (done : Change T) (t : ℕ) → Fits c done → t < c.next → issues done t ≡ false
-  issues_other c (Blocks m u) t h lt = let same : u ≡ c.next = h.2 in ne_eqb u t (λ e. omega arith)
+  issues_other : (c : Channel T) (done : Change T) (t : ℕ) → Fits c done → t < c.next_ticket → issues done t ≡ false
+  issues_other c (Blocks m u) t h lt = let same : u ≡ c.next_ticket = h.2 in ne_eqb u t (λ e. omega arith)
   issues_other c _ t h lt = refl
 
   -- one that asks, and isn't filled, waits then
-  again_waits : (n t : ℕ) (e : LogEntry T) (es : List (LogEntry T)) → Apart n es → entry_of t es ≡ Some e → is_filled e.mark ≡ false
+  again_waits : (n t : ℕ) (e : LogEntry T) (es : List (LogEntry T)) → DistinctTickets n es → entry_of t es ≡ Some e
+      → is_filled e.mark ≡ false
       → (x : LogEntry T) → entry_of t (again t es) ≡ Some x → is_waiting x.mark ≡ true
   again_waits n t e es apart found unfilled x reply_is = by_mark e.mark refl
     where
@@ -179,7 +180,7 @@ module _ {T A S : Type 0} where
   -- a parked receiver that has left has left after one step more
   entry_left : (o : Opening) (log : Log T A) (p : Step T × Reply T A) (s after : State T S) → Represents o log s
       → Represents o (p ∷ log) after
-      → (t : ℕ) → t < s.next → entry_of t s.entries ≡ None → entry_of t after.entries ≡ None
+      → (t : ℕ) → t < s.next_ticket → entry_of t s.entries ≡ None → entry_of t after.entries ≡ None
   entry_left o log p s after h more t below none =
       none_mapped bare (entry_of t after.entries)
       (sym (entry_at_log more t) ∙ entry_gone o log p more.run t (rw h.next_is at below) (entry_at_log h t ∙ ap (option_map bare) none))
@@ -187,7 +188,7 @@ module _ {T A S : Type 0} where
   -- a send that has ended has ended after one step more
   send_ended : (o : Opening) (log : Log T A) (p : Step T × Reply T A) (s after : State T S) → Represents o log s
       → Represents o (p ∷ log) after
-      → (t : ℕ) → t < s.next → get s.sends t ≡ None → get after.sends t ≡ None
+      → (t : ℕ) → t < s.next_ticket → get s.sends t ≡ None → get after.sends t ≡ None
   send_ended o log p s after h more t below none =
       let was : is_live log t ≡ false = no_status _ _ (sym (ap (option_map (λ send. send.accepted)) none) ∙ h.sends_are t) in
       let now : is_live (p ∷ log) t ≡ false = send_gone o log p more.run t (rw h.next_is at below) was in
@@ -196,7 +197,7 @@ module _ {T A S : Type 0} where
   -- tickets only rise
   next_rises : (o : Opening) (log : Log T A) (p : Step T × Reply T A) (s after : State T S) → Represents o log s
       → Represents o (p ∷ log) after
-      → s.next ≤ after.next
+      → s.next_ticket ≤ after.next_ticket
   next_rises o log p s after h more = let was = h.next_is in let now = more.next_is in omega (arith, was, now)
 
   -- a receiver that waits on or again by a step waits after it
@@ -211,7 +212,7 @@ module _ {T A S : Type 0} where
   -- a send that was blocked is after some steps, or it is due, or it has ended
   pub sends_kept : (b : Bool) (t : ℕ) (o : Opening) (log : Log T A) {s after : State T S} {made : List (Step T × Reply T A)}
       → Represents o log s
-      → StepsBetween s made after → t < s.next → SendKept b (is_closed s.senders s.receivers) (get s.sends t)
+      → StepsBetween s made after → t < s.next_ticket → SendKept b (is_closed s.senders s.receivers) (get s.sends t)
       → SendKept b (is_closed after.senders after.receivers) (get after.sends t)
   sends_kept b t o log h NoSteps below kept = kept
   sends_kept b t o log {s = s} h (FirstStep {between = mid} {step = step} {reply = reply} stepped rest) below kept =
@@ -223,7 +224,7 @@ module _ {T A S : Type 0} where
 
   -- a receiver that waited does after some steps, or it is due, or it has left
   pub receivers_kept : (t : ℕ) (o : Opening) (log : Log T A) {s after : State T S} {made : List (Step T × Reply T A)} → Represents o log s
-      → StepsBetween s made after → t < s.next → ReceiverKept (entry_of t s.entries) → ReceiverKept (entry_of t after.entries)
+      → StepsBetween s made after → t < s.next_ticket → ReceiverKept (entry_of t s.entries) → ReceiverKept (entry_of t after.entries)
   receivers_kept t o log h NoSteps below kept = kept
   receivers_kept t o log {s = s} h (FirstStep {between = mid} {step = step} {reply = reply} stepped rest) below kept =
       let more = stepped.extends o log h in

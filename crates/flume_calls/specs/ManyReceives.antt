@@ -57,7 +57,7 @@ module _ {T : Type 0} where
 
 module _ {T A : Type 0} where
   -- the table of a batch that takes what is there
-  pub record MoreTable (before : List T) (made : List (Step T × Reply T A)) (after : List T)
+  pub record BatchTakes (before : List T) (made : List (Step T × Reply T A)) (after : List T)
       (count : ℕ) : Type 0 where
     pub taken : List T
     pub steps : made ≡ each_got taken
@@ -67,7 +67,7 @@ module _ {T A : Type 0} where
   -- the table of a first receive of many
   pub data FirstManyTable (before : List T) (made : List (Step T × Reply T A)) (after : List T)
       (next : RecvNext ℕ) : Type 0 where
-    Some : (count : ℕ) → MoreTable before made after count → next ≡ Done (Ok count)
+    Some : (count : ℕ) → BatchTakes before made after count → next ≡ Done (Ok count)
         → FirstManyTable before made after next
     None : (reply : Reply T A) → (first : RecvNext T) → made ≡ (TryRecv, reply) ∷ []
         → after_try_recv reply first → GivesNone first → after ≡ before → next ≡ with_more 0 first
@@ -92,7 +92,7 @@ module _ {T A : Type 0} where
 
 module _ {T S A : Type 0} where
   -- what a first receive of at most this many says of the states, by its answer
-  pub record FirstManyOutcome (into : Vec T A) (most : ℕ) (old new : State T S)
+  pub record FirstManyOutcome (buffer : Vec T A) (most : ℕ) (old new : State T S)
       (next : RecvNext ℕ) : Type 0 where
     pub took : (count : ℕ) → next ≡ Done (Ok count)
         → (count ≡ min most (message_count old)) × (message_count new + count ≡ message_count old)
@@ -101,7 +101,7 @@ module _ {T S A : Type 0} where
     pub disconnected : (next ≡ Done (Err Disconnected))
         ↔ (0 < most) × (message_count old ≡ 0) × IsClosed old.senders old.receivers
     pub no_memory : next ≡ Done (Err NoMemory) → (0 < message_count old)
-        × (vec_capacity into < vec_len into + min most (message_count old))
+        × (vec_capacity buffer < vec_len buffer + min most (message_count old))
     pub unchanged : GivesNone next → new ≡ old
 
 module _ {T S : Type 0} (A : Type 0) where

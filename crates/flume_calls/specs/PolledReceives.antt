@@ -13,7 +13,7 @@ use Rattle.flume_calls.specs.declared.calls.receive.RecvNext.TheVariants.{Done, 
 use Rattle.flume_calls.specs.declared.calls.receive.RecvNext.TheVariants.{Refused}
 use Rattle.flume_calls.specs.Turns.{Turned}
 use Rattle.flume_calls.specs.ReceiveTurns.{after_try_recv, after_recv, after_poll}
-use Rattle.flume_calls.specs.ReceiveTurns.{IsFirst, IsParking, IsLater, IsntRefused}
+use Rattle.flume_calls.specs.ReceiveTurns.{IsFirstAnswer, IsParkingAnswer, IsPollAnswer, HadMemory}
 use Rattle.flume_calls.specs.ReceiveOutcomes.{FirstReceiveOutcome, ParkReceiveOutcome}
 use Rattle.flume_calls.specs.ReceiveOutcomes.{AgainReceiveOutcome}
 
@@ -46,11 +46,11 @@ module _ {T S : Type 0} where
       : Type 0 where
     Tries : (next : RecvNext T) → call ≡ None → signal ≡ None
         → Turned {A = A} TryRecv after_try_recv old new next
-        → IsFirst next → IsntRefused next → FirstReceiveOutcome old new next
+        → IsFirstAnswer next → HadMemory next → FirstReceiveOutcome old new next
         → finishes_receive false next after answer
         → ReceivePoll A kind call signal old new after answer
     Parks : (next : RecvNext T) → (given : S) → call ≡ None → signal ≡ Some given
-        → Turned {A = A} (Recv kind) after_recv old new next → IsParking next
+        → Turned {A = A} (Recv kind) after_recv old new next → IsParkingAnswer next
         → ParkReceiveOutcome kind given old new next
         → finishes_receive true next after answer
         → ReceivePoll A kind call signal old new after answer
@@ -61,7 +61,7 @@ module _ {T S : Type 0} where
     Asks : (next : RecvNext T) → (ticket : ℕ) → call ≡ Some ticket
         → (signal ≡ None → ¬ (FindsNothing old))
         → Turned {A = A} (Poll ticket) (after_poll ticket) old new next
-        → IsLater ticket next → IsntRefused next
+        → IsPollAnswer ticket next → HadMemory next
         → AgainReceiveOutcome ticket false signal old new next
         → finishes_receive (is_some signal) next after answer
         → ReceivePoll A kind call signal old new after answer

@@ -12,7 +12,8 @@ use Rattle.flume_calls.specs.declared.polled.send.PolledSend.{PolledSend}
 use Rattle.flume_calls.specs.declared.polled.send.PolledSend.TheVariants.{Unsent, Parked, Finished}
 use Rattle.flume_calls.specs.Turns.{Turned}
 use Rattle.flume_calls.specs.SendTurns.{after_try_send, after_send, after_parked_send}
-use Rattle.flume_calls.specs.SendTurns.{step_of_parked_send, IsFirst, IsParking, IsAgain}
+use Rattle.flume_calls.specs.SendTurns.{step_of_parked_send, IsFirstAnswer, IsParkingAnswer}
+use Rattle.flume_calls.specs.SendTurns.{IsParkedAnswer}
 use Rattle.flume_calls.specs.SendOutcomes.{FirstSendOutcome, ParkSendOutcome, AgainSendOutcome}
 
 module _ {T : Type 0} where
@@ -52,11 +53,11 @@ module _ {T S : Type 0} where
         → SendPoll A send signal old new after answer
     Tries : (message : T) → (next : SendNext T) → send ≡ Unsent message → signal ≡ None
         → Turned {A = A} (TrySend message) after_try_send old new next
-        → IsFirst message next → FirstSendOutcome message old new next
+        → IsFirstAnswer message next → FirstSendOutcome message old new next
         → finishes_send next after answer → SendPoll A send signal old new after answer
     Parks : (message : T) → (next : SendNext T) → (given : S) → send ≡ Unsent message
         → signal ≡ Some given → Turned {A = A} (Send message) after_send old new next
-        → IsParking message next → ParkSendOutcome A message given old new next
+        → IsParkingAnswer message next → ParkSendOutcome A message given old new next
         → finishes_send next after answer → SendPoll A send signal old new after answer
     -- if it is blocked and has no signal, it takes its message back
     Asks : (last : Bool) → (ticket : ℕ) → (next : SendNext T) → send ≡ Parked ticket
@@ -64,5 +65,5 @@ module _ {T S : Type 0} where
         → (last ≡ false → signal ≡ None → ¬ (IsHeldBack ticket old))
         → Turned {A = A} (step_of_parked_send ticket last) (after_parked_send ticket last)
         old new next
-        → IsAgain ticket last next → AgainSendOutcome A ticket last signal old new next
+        → IsParkedAnswer ticket last next → AgainSendOutcome A ticket last signal old new next
         → finishes_send next after answer → SendPoll A send signal old new after answer

@@ -4,8 +4,8 @@ use Rattle.std.specs.Prelude.{List, ◌∷◌, []}
 use Rattle.flume_model.specs.declared.step.Kind.{Kind}
 use Rattle.flume_model.specs.Limits.{IsOpen, IsClosed, most}
 use Rattle.flume_model.specs.Entries.{entry_of, held_by, again}
-use Rattle.flume_state.specs.Receivers.{receiver_status, looks, is_unfilled_block}
-use Rattle.flume_state.specs.Receivers.{noticed_receiver, waits_on}
+use Rattle.flume_state.specs.Receivers.{receiver_status, looks_at_line, is_unfilled_block}
+use Rattle.flume_state.specs.Receivers.{with_receiver_notice, waits_on}
 use Rattle.flume_state.specs.declared.entries.ReceiverStatus.TheVariants.{BlockWaiting}
 use Rattle.flume_state.specs.State.{State}
 use Rattle.flume_state.specs.Effects.{with_front, after_take, without_receiver, with_peak}
@@ -36,7 +36,8 @@ module _ {T S : Type 0} where
     pub disconnected : (next ≡ Done (Err Disconnected))
         ↔ ((with_front old).queue ≡ []) × IsClosed old.senders old.receivers
     pub parked : (ticket : ℕ) → next ≡ Park ticket → Begins old new ticket kind signal
-    pub spent : (with_front old).queue ≡ [] → IsOpen old.senders old.receivers → most ≤ old.next
+    pub spent : (with_front old).queue ≡ [] → IsOpen old.senders old.receivers
+        → most ≤ old.next_ticket
         → next ≡ Done (Err NoMemory)
     pub unchanged : (error : RecvTimeoutError) → next ≡ Done (Err error) → new ≡ old
 
@@ -45,20 +46,21 @@ module _ {T S : Type 0} where
       (old new : State T S) (next : RecvNext T) : Type 0 where
     pub waits : (next ≡ Park call) ↔ (last ≡ false)
         × ((receiver_status call old.entries ≡ Some BlockWaiting)
-        ⊎ ((looks (receiver_status call old.entries) ≡ true)
+        ⊎ ((looks_at_line (receiver_status call old.entries) ≡ true)
         × ((with_front old).queue ≡ []) × IsOpen old.senders old.receivers))
     pub replaced : next ≡ Park call
-        → new ≡ with_peak (again call (noticed_receiver (waits_on signal) call old.entries)) old
+        → new ≡ with_peak (again call (with_receiver_notice (waits_on signal) call old.entries)) old
     pub collected : (message : T) → held_by (entry_of call old.entries) ≡ Some message
         → (next ≡ Done (Ok message)) × (new ≡ without_receiver call old)
     pub got : (message : T) (rest : List T) → last ≡ false
-        → looks (receiver_status call old.entries) ≡ true → (with_front old).queue ≡ message ∷ rest
+        → looks_at_line (receiver_status call old.entries) ≡ true
+        → (with_front old).queue ≡ message ∷ rest
         → (next ≡ Done (Ok message)) × (new ≡ without_receiver call (after_take rest old))
     pub got_if_last : (message : T) (rest : List T) → last ≡ true
         → is_unfilled_block (receiver_status call old.entries) ≡ true
         → (with_front old).queue ≡ message ∷ rest
         → (next ≡ Done (Ok message)) × (new ≡ without_receiver call (after_take rest old))
-    pub ended : last ≡ false → looks (receiver_status call old.entries) ≡ true
+    pub ended : last ≡ false → looks_at_line (receiver_status call old.entries) ≡ true
         → (with_front old).queue ≡ [] → IsClosed old.senders old.receivers
         → (next ≡ Done (Err Disconnected)) × (new ≡ without_receiver call old)
     pub no_ticket : entry_of call old.entries ≡ None

@@ -14,44 +14,44 @@ use Rattle.flume_calls.specs.declared.calls.receive.RecvNext.TheVariants.{Refuse
 
 module _ {T : Type 0} where
   -- the first turn never parks and never times out
-  abbrev pub IsFirst : RecvNext T → Type 0
-  IsFirst (Done (Err Timeout)) = ⊥
-  IsFirst (Park ticket) = ⊥
-  IsFirst (Refused ticket) = ⊥
-  IsFirst _ = Unit {0}
+  abbrev pub IsFirstAnswer : RecvNext T → Type 0
+  IsFirstAnswer (Done (Err Timeout)) = ⊥
+  IsFirstAnswer (Park ticket) = ⊥
+  IsFirstAnswer (Refused ticket) = ⊥
+  IsFirstAnswer _ = Unit {0}
 
   -- the turn that may park never needs a signal and never times out
-  abbrev pub IsParking : RecvNext T → Type 0
-  IsParking (Done (Err Timeout)) = ⊥
-  IsParking NeedSignal = ⊥
-  IsParking (Refused ticket) = ⊥
-  IsParking _ = Unit {0}
+  abbrev pub IsParkingAnswer : RecvNext T → Type 0
+  IsParkingAnswer (Done (Err Timeout)) = ⊥
+  IsParkingAnswer NeedSignal = ⊥
+  IsParkingAnswer (Refused ticket) = ⊥
+  IsParkingAnswer _ = Unit {0}
 
   -- a turn of the receive parked under this ticket that isn't its last
-  abbrev pub IsLater : ℕ → RecvNext T → Type 0
-  IsLater ticket (Done (Err Timeout)) = ⊥
-  IsLater ticket (Done (Err NoMemory)) = ⊥
-  IsLater ticket NeedSignal = ⊥
-  IsLater ticket (Park same) = same ≡ ticket
-  IsLater ticket (Refused same) = same ≡ ticket
-  IsLater ticket _ = Unit {0}
+  abbrev pub IsPollAnswer : ℕ → RecvNext T → Type 0
+  IsPollAnswer ticket (Done (Err Timeout)) = ⊥
+  IsPollAnswer ticket (Done (Err NoMemory)) = ⊥
+  IsPollAnswer ticket NeedSignal = ⊥
+  IsPollAnswer ticket (Park same) = same ≡ ticket
+  IsPollAnswer ticket (Refused same) = same ≡ ticket
+  IsPollAnswer ticket _ = Unit {0}
 
   -- the last turn of a parked receive, which withdraws
-  abbrev pub IsEnd : RecvNext T → Type 0
-  IsEnd (Done (Err NoMemory)) = ⊥
-  IsEnd (Done result) = Unit {0}
-  IsEnd _ = ⊥
+  abbrev pub IsWithdrawAnswer : RecvNext T → Type 0
+  IsWithdrawAnswer (Done (Err NoMemory)) = ⊥
+  IsWithdrawAnswer (Done result) = Unit {0}
+  IsWithdrawAnswer _ = ⊥
 
   -- a turn of a parked receive, by whether it is the last
-  abbrev pub IsAgain : ℕ → Bool → RecvNext T → Type 0
-  IsAgain ticket false next = IsLater ticket next
-  IsAgain ticket true next = IsEnd next
+  abbrev pub IsParkedAnswer : ℕ → Bool → RecvNext T → Type 0
+  IsParkedAnswer ticket false next = IsPollAnswer ticket next
+  IsParkedAnswer ticket true next = IsWithdrawAnswer next
 
   -- memory didn't run out
-  abbrev pub IsntRefused : RecvNext T → Type 0
-  IsntRefused (Done (Err NoMemory)) = ⊥
-  IsntRefused (Refused ticket) = ⊥
-  IsntRefused _ = Unit {0}
+  abbrev pub HadMemory : RecvNext T → Type 0
+  HadMemory (Done (Err NoMemory)) = ⊥
+  HadMemory (Refused ticket) = ⊥
+  HadMemory _ = Unit {0}
 
   -- a receive that gave no message, and isn't parked
   abbrev pub GivesNone : RecvNext T → Type 0

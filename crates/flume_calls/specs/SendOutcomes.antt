@@ -5,7 +5,7 @@ use Rattle.std.specs.FinMap.{get, insert, remove}
 use Rattle.flume_model.specs.Limits.{IsOpen, IsClosed, IsAtCapacity}
 use Rattle.flume_model.specs.Entries.{some_wait}
 use Rattle.flume_state.specs.Notices.{with_signal}
-use Rattle.flume_state.specs.Sends.{newly_blocked, noticed_send}
+use Rattle.flume_state.specs.Sends.{newly_blocked, with_send_notice}
 use Rattle.flume_state.specs.State.{State, accepted_at, message_count}
 use Rattle.flume_state.specs.Effects.{Joins, Returns}
 use Rattle.flume_core.specs.Represents.{IsReachable}
@@ -35,13 +35,13 @@ module _ {T S : Type 0} where
     pub waits : (ticket : ℕ) → next ≡ Park ticket → FindsNoRoom old
     pub refused : next ≡ Done (Err (NoMemory message)) → message_count old < old.space
         → FindsNoRoom old
-    pub parked : next ≡ Park old.next → new ≡ record old {
-      blocked = old.blocked ++ record { ticket = old.next; message = message } ∷ [];
+    pub parked : next ≡ Park old.next_ticket → new ≡ record old {
+      blocked = old.blocked ++ record { ticket = old.next_ticket; message = message } ∷ [];
       space = new.space;
-      sends = insert old.sends old.next (newly_blocked signal);
-      next = old.next + 1;
+      sends = insert old.sends old.next_ticket (newly_blocked signal);
+      next_ticket = old.next_ticket + 1;
     }
-    pub ticket : IsReachable A old → (ticket : ℕ) → next ≡ Park ticket → ticket ≡ old.next
+    pub ticket : IsReachable A old → (ticket : ℕ) → next ≡ Park ticket → ticket ≡ old.next_ticket
     pub unchanged : HandsBack next → new ≡ old
 
   -- a turn of the send parked under this ticket; the signal replaces the one that it left
@@ -50,7 +50,7 @@ module _ {T S : Type 0} where
     pub waits : (next ≡ Park call) ↔ (last ≡ false)
         × (accepted_at old call ≡ Some false) × IsOpen old.senders old.receivers
     pub replaced : next ≡ Park call
-        → new ≡ record old { sends = noticed_send (with_signal signal) call old.sends }
+        → new ≡ record old { sends = with_send_notice (with_signal signal) call old.sends }
     pub accepted : accepted_at old call ≡ Some true → (next ≡ Done (Ok tt))
         × (new ≡ record old { sends = remove old.sends call })
     pub no_ticket : get old.sends call ≡ None → (next ≡ Done (Ok tt)) × (new ≡ old)

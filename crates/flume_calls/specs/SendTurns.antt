@@ -13,38 +13,38 @@ use Rattle.flume_calls.specs.declared.calls.send.SendNext.TheVariants.{Done, Nee
 
 module _ {T : Type 0} where
   -- the first turn never parks and never times out
-  abbrev pub IsFirst : T → SendNext T → Type 0
-  IsFirst message (Done (Ok sent)) = Unit {0}
-  IsFirst message (Done (Err (Timeout back))) = ⊥
-  IsFirst message (Done (Err (Disconnected back))) = back ≡ message
-  IsFirst message (Done (Err (NoMemory back))) = back ≡ message
-  IsFirst message (NeedSignal back) = back ≡ message
-  IsFirst message (Park ticket) = ⊥
+  abbrev pub IsFirstAnswer : T → SendNext T → Type 0
+  IsFirstAnswer message (Done (Ok sent)) = Unit {0}
+  IsFirstAnswer message (Done (Err (Timeout back))) = ⊥
+  IsFirstAnswer message (Done (Err (Disconnected back))) = back ≡ message
+  IsFirstAnswer message (Done (Err (NoMemory back))) = back ≡ message
+  IsFirstAnswer message (NeedSignal back) = back ≡ message
+  IsFirstAnswer message (Park ticket) = ⊥
 
   -- the turn that may park never needs a signal and never times out
-  abbrev pub IsParking : T → SendNext T → Type 0
-  IsParking message (NeedSignal back) = ⊥
-  IsParking message (Park ticket) = Unit {0}
-  IsParking message other = IsFirst message other
+  abbrev pub IsParkingAnswer : T → SendNext T → Type 0
+  IsParkingAnswer message (NeedSignal back) = ⊥
+  IsParkingAnswer message (Park ticket) = Unit {0}
+  IsParkingAnswer message other = IsFirstAnswer message other
 
   -- a turn of the send parked under this ticket that isn't its last
-  abbrev pub IsLater : ℕ → SendNext T → Type 0
-  IsLater ticket (Done (Ok sent)) = Unit {0}
-  IsLater ticket (Done (Err (Disconnected back))) = Unit {0}
-  IsLater ticket (Park same) = same ≡ ticket
-  IsLater ticket _ = ⊥
+  abbrev pub IsPollAnswer : ℕ → SendNext T → Type 0
+  IsPollAnswer ticket (Done (Ok sent)) = Unit {0}
+  IsPollAnswer ticket (Done (Err (Disconnected back))) = Unit {0}
+  IsPollAnswer ticket (Park same) = same ≡ ticket
+  IsPollAnswer ticket _ = ⊥
 
   -- the last turn of a parked send, which withdraws
-  abbrev pub IsEnd : SendNext T → Type 0
-  IsEnd (Done (Ok sent)) = Unit {0}
-  IsEnd (Done (Err (Disconnected back))) = Unit {0}
-  IsEnd (Done (Err (Timeout back))) = Unit {0}
-  IsEnd _ = ⊥
+  abbrev pub IsWithdrawAnswer : SendNext T → Type 0
+  IsWithdrawAnswer (Done (Ok sent)) = Unit {0}
+  IsWithdrawAnswer (Done (Err (Disconnected back))) = Unit {0}
+  IsWithdrawAnswer (Done (Err (Timeout back))) = Unit {0}
+  IsWithdrawAnswer _ = ⊥
 
   -- a turn of a parked send, by whether it is the last
-  abbrev pub IsAgain : ℕ → Bool → SendNext T → Type 0
-  IsAgain ticket false next = IsLater ticket next
-  IsAgain ticket true next = IsEnd next
+  abbrev pub IsParkedAnswer : ℕ → Bool → SendNext T → Type 0
+  IsParkedAnswer ticket false next = IsPollAnswer ticket next
+  IsParkedAnswer ticket true next = IsWithdrawAnswer next
 
   -- an offer that hands its message back
   abbrev pub HandsBack : SendNext T → Type 0

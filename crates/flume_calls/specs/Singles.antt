@@ -6,16 +6,16 @@ use Rattle.flume_model.specs.declared.step.Reply.{Reply}
 use Rattle.flume_model.specs.declared.step.Reply.TheVariants as reply
 use Rattle.flume_core.specs.declared.error.CapacityError.{CapacityError}
 use Rattle.flume_core.specs.declared.error.CapacityError.TheVariants as error
-use Rattle.flume_calls.specs.declared.single.Single.{Single}
-use Rattle.flume_calls.specs.declared.single.Single.TheVariants as single
-use Rattle.flume_calls.specs.declared.single.AskNumber.{AskNumber}
-use Rattle.flume_calls.specs.declared.single.AskNumber.TheVariants as number
-use Rattle.flume_calls.specs.declared.single.AskTruth.{AskTruth}
-use Rattle.flume_calls.specs.declared.single.AskTruth.TheVariants as truth
+use Rattle.flume_calls.specs.declared.single.SingleStep.{SingleStep}
+use Rattle.flume_calls.specs.declared.single.SingleStep.TheVariants as single
+use Rattle.flume_calls.specs.declared.single.CountQuery.{CountQuery}
+use Rattle.flume_calls.specs.declared.single.CountQuery.TheVariants as number
+use Rattle.flume_calls.specs.declared.single.FlagQuery.{FlagQuery}
+use Rattle.flume_calls.specs.declared.single.FlagQuery.TheVariants as flag
 
 module _ {T : Type 0} where
   -- the step that a single turn makes
-  abbrev pub step_of : Single → Step T
+  abbrev pub step_of : SingleStep → Step T
   step_of single.Drain = step.Drain
   step_of single.CloneSender = step.CloneSender
   step_of single.CloneReceiver = step.CloneReceiver
@@ -23,16 +23,16 @@ module _ {T : Type 0} where
   step_of single.DropReceiver = step.DropReceiver
 
   -- the step that asks for a number
-  abbrev pub step_for_number : AskNumber → Step T
-  step_for_number number.Len = step.Len
-  step_for_number number.SenderCount = step.SenderCount
-  step_for_number number.ReceiverCount = step.ReceiverCount
+  abbrev pub count_query_step : CountQuery → Step T
+  count_query_step number.Len = step.Len
+  count_query_step number.SenderCount = step.SenderCount
+  count_query_step number.ReceiverCount = step.ReceiverCount
 
-  -- the step that asks for a truth
-  abbrev pub step_for_truth : AskTruth → Step T
-  step_for_truth truth.IsEmpty = step.IsEmpty
-  step_for_truth truth.IsFull = step.IsFull
-  step_for_truth truth.IsDisconnected = step.IsDisconnected
+  -- the step that asks for a flag
+  abbrev pub flag_query_step : FlagQuery → Step T
+  flag_query_step flag.IsEmpty = step.IsEmpty
+  flag_query_step flag.IsFull = step.IsFull
+  flag_query_step flag.IsDisconnected = step.IsDisconnected
 
 module _ {T A : Type 0} where
   -- what a change of the capacity answers to each reply

@@ -27,7 +27,7 @@ use std::marker::Model;
 /// let mut locked: Locked<u64, u64, Global> = Locked::new(rt.alloc(), Some(1));
 /// locked.make(FirstSend { message: 7 }, &mut bell);      // Done(Ok(()))
 /// locked.make(FirstSend { message: 8 }, &mut bell);      // NeedSignal(8): it is full
-/// locked.make(AskNumber::Len, &mut bell);                // 1
+/// locked.make(CountQuery::Len, &mut bell);                // 1
 /// locked.make(FirstReceive, &mut bell);                  // Done(Ok(7))
 /// ```
 #[derive(Drop)]

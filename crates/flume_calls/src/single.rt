@@ -10,7 +10,7 @@ use std::alloc::Allocator;
 
 /// The steps whose reply is the answer. A refusal changes nothing.
 #[derive(Clone, Copy, Drop)]
-pub enum Single {
+pub enum SingleStep {
     Drain,
     CloneSender,
     CloneReceiver,
@@ -18,7 +18,7 @@ pub enum Single {
     DropReceiver,
 }
 
-impl<T: Drop, S: Drop, A: Allocator + Copy> Turn<T, S, A> for Single {
+impl<T: Drop, S: Drop, A: Allocator + Copy> Turn<T, S, A> for SingleStep {
     ghost use Rattle.std.specs.Prelude.{◌≡◌};
     ghost use Rattle.flume_core.specs.Represents.{ChangesNothing};
     ghost use Rattle.flume_core.specs.PossibleReply.{PossibleReply};
@@ -36,31 +36,31 @@ impl<T: Drop, S: Drop, A: Allocator + Copy> Turn<T, S, A> for Single {
 
     fn apply(self, chan: &mut Chan<T, S, A>) -> Reply<T, A> {
         match self {
-            Single::Drain => chan.drain(),
-            Single::CloneSender => chan.clone_sender(),
-            Single::CloneReceiver => chan.clone_receiver(),
-            Single::DropSender => chan.drop_sender(),
-            Single::DropReceiver => chan.drop_receiver(),
+            SingleStep::Drain => chan.drain(),
+            SingleStep::CloneSender => chan.clone_sender(),
+            SingleStep::CloneReceiver => chan.clone_receiver(),
+            SingleStep::DropSender => chan.drop_sender(),
+            SingleStep::DropReceiver => chan.drop_receiver(),
         }
     }
 }
 
 /// The queries for a number.
 #[derive(Clone, Copy, Drop)]
-pub enum AskNumber {
+pub enum CountQuery {
     Len,
     SenderCount,
     ReceiverCount,
 }
 
-impl<T: Drop, S: Drop, A: Allocator + Copy> Turn<T, S, A> for AskNumber {
+impl<T: Drop, S: Drop, A: Allocator + Copy> Turn<T, S, A> for CountQuery {
     ghost use Rattle.std.specs.Prelude.{◌≡◌};
     ghost use Rattle.flume_model.specs.declared.step.Reply.TheVariants.{Number};
-    ghost use Rattle.flume_calls.specs.Singles.{step_for_number};
+    ghost use Rattle.flume_calls.specs.Singles.{count_query_step};
 
     type Answer = usize;
 
-    ghost does = { λ turn old new answer. Turned {A = A} (step_for_number turn)
+    ghost does = { λ turn old new answer. Turned {A = A} (count_query_step turn)
         (λ reply number. reply ≡ Number number) old new answer × (new ≡ old) };
 
     ghost leads = { λ _ old new answer does. by_step does.0 };
@@ -69,9 +69,9 @@ impl<T: Drop, S: Drop, A: Allocator + Copy> Turn<T, S, A> for AskNumber {
 
     fn apply(self, chan: &mut Chan<T, S, A>) -> usize {
         let reply = match self {
-            AskNumber::Len => chan.len(),
-            AskNumber::SenderCount => chan.sender_count(),
-            AskNumber::ReceiverCount => chan.receiver_count(),
+            CountQuery::Len => chan.len(),
+            CountQuery::SenderCount => chan.sender_count(),
+            CountQuery::ReceiverCount => chan.receiver_count(),
         };
         match reply {
             Reply::Number(number) => number,
@@ -80,23 +80,23 @@ impl<T: Drop, S: Drop, A: Allocator + Copy> Turn<T, S, A> for AskNumber {
     }
 }
 
-/// The queries for a truth.
+/// The queries for a flag.
 #[derive(Clone, Copy, Drop)]
-pub enum AskTruth {
+pub enum FlagQuery {
     IsEmpty,
     IsFull,
     IsDisconnected,
 }
 
-impl<T: Drop, S: Drop, A: Allocator + Copy> Turn<T, S, A> for AskTruth {
+impl<T: Drop, S: Drop, A: Allocator + Copy> Turn<T, S, A> for FlagQuery {
     ghost use Rattle.std.specs.Prelude.{◌≡◌};
-    ghost use Rattle.flume_model.specs.declared.step.Reply.TheVariants.{Truth};
-    ghost use Rattle.flume_calls.specs.Singles.{step_for_truth};
+    ghost use Rattle.flume_model.specs.declared.step.Reply.TheVariants.{Flag};
+    ghost use Rattle.flume_calls.specs.Singles.{flag_query_step};
 
     type Answer = bool;
 
-    ghost does = { λ turn old new answer. Turned {A = A} (step_for_truth turn)
-        (λ reply truth. reply ≡ Truth truth) old new answer × (new ≡ old) };
+    ghost does = { λ turn old new answer. Turned {A = A} (flag_query_step turn)
+        (λ reply flag. reply ≡ Flag flag) old new answer × (new ≡ old) };
 
     ghost leads = { λ _ old new answer does. by_step does.0 };
 
@@ -104,12 +104,12 @@ impl<T: Drop, S: Drop, A: Allocator + Copy> Turn<T, S, A> for AskTruth {
 
     fn apply(self, chan: &mut Chan<T, S, A>) -> bool {
         let reply = match self {
-            AskTruth::IsEmpty => chan.is_empty(),
-            AskTruth::IsFull => chan.is_full(),
-            AskTruth::IsDisconnected => chan.is_disconnected(),
+            FlagQuery::IsEmpty => chan.is_empty(),
+            FlagQuery::IsFull => chan.is_full(),
+            FlagQuery::IsDisconnected => chan.is_disconnected(),
         };
         match reply {
-            Reply::Truth(truth) => truth,
+            Reply::Flag(flag) => flag,
             _ => unreachable!(),
         }
     }
@@ -117,9 +117,9 @@ impl<T: Drop, S: Drop, A: Allocator + Copy> Turn<T, S, A> for AskTruth {
 
 /// The query for the capacity; `None` if unbounded.
 #[derive(Clone, Copy, Drop)]
-pub struct AskCapacity;
+pub struct CapacityQuery;
 
-impl<T: Drop, S: Drop, A: Allocator + Copy> Turn<T, S, A> for AskCapacity {
+impl<T: Drop, S: Drop, A: Allocator + Copy> Turn<T, S, A> for CapacityQuery {
     ghost use Rattle.std.specs.Prelude.{◌≡◌};
     ghost use Rattle.flume_model.specs.declared.step.Step.TheVariants.{Capacity as AskForCapacity};
     ghost use Rattle.flume_model.specs.declared.step.Reply.TheVariants.{Capacity};

@@ -8,7 +8,7 @@ use Rattle.std.specs.Vec.{vec_len}
 use Rattle.std.proofs.lemmas.List.{map-append, get_or_past}
 use Rattle.flume_chain.specs.declared.chain.links.Links.{Links}
 use Rattle.flume_chain.specs.declared.labelled.LabelledValue.{LabelledValue}
-use Rattle.flume_chain.specs.Links.{end, no_node, element_of, with, next_at, previous_at, element_at, Linked, Same}
+use Rattle.flume_chain.specs.Links.{nil, no_node, element_of, with, next_at, previous_at, element_at, Linked, Same}
 use Rattle.flume_chain.specs.ChainState.{once, times, ChainItem, ChainState, Table, HoldsItems, IsChain}
 use Rattle.flume_chain.specs.ChainState.{places, without_place, put_before, table_of, room_of, chain_of}
 use Rattle.flume_chain.specs.ChainState.{first_place, place_after}
@@ -44,17 +44,18 @@ module _ {X Y : Type 0} where
 module _ {E : Type 0} where
   -- the places next to that of an element are the end or below the size
   pub record Neighbours (t : Table E) (c : ℕ) : Type 0 where
-    pub next : t.next c ≢ end → t.next c < t.size
-    pub previous : t.previous c ≢ end → t.previous c < t.size
+    pub next : t.next c ≢ nil → t.next c < t.size
+    pub previous : t.previous c ≢ nil → t.previous c < t.size
 
-  pub neighbours : (t : Table E) (xs ys : List (ChainItem E)) (c : ℕ) (e : E) (frees : List ℕ) → HoldsItems t (xs ++ item c e ∷ ys) frees
+  pub neighbours : (t : Table E) (xs ys : List (ChainItem E)) (c : ℕ) (e : E) (free_places : List ℕ)
+      → HoldsItems t (xs ++ item c e ∷ ys) free_places
       → Neighbours t c
-  neighbours t xs ys c e frees h =
+  neighbours t xs ys c e free_places h =
       let names : places (xs ++ item c e ∷ ys) ≡ places xs ++ c ∷ places ys = map-append (λ (x : ChainItem E). x.place) xs
       (item c e ∷ ys) in
       let r = around t.next t.previous (places xs) c (places ys)
-      (subst (Ring t.next t.previous) names (ring_of t (xs ++ item c e ∷ ys) frees h)) in
-      let last_stands : 1 ≤ times (t.previous c) (end ∷ places (xs ++ item c e ∷ ys)) =
+      (subst (Ring t.next t.previous) names (ring_of t (xs ++ item c e ∷ ys) free_places h)) in
+      let last_stands : 1 ≤ times (t.previous c) (nil ∷ places (xs ++ item c e ∷ ys)) =
       let s = ap (times (t.previous c)) r.ends in
       let a = times-append (t.previous c) r.front (r.last ∷ []) in
       let o = once_same (t.previous c) in
@@ -62,39 +63,39 @@ module _ {E : Type 0} where
       let d = times-append (t.previous c) (places xs) (c ∷ places ys) in
       let n = ap (times (t.previous c)) names in
       omega arith in
-      let head_stands : 1 ≤ times (t.next c) (end ∷ places (xs ++ item c e ∷ ys)) =
+      let head_stands : 1 ≤ times (t.next c) (nil ∷ places (xs ++ item c e ∷ ys)) =
       let s = ap (times (t.next c)) r.begins in
-      let a = times-append (t.next c) (places ys) (end ∷ []) in
+      let a = times-append (t.next c) (places ys) (nil ∷ []) in
       let o = once_same (t.next c) in
       let p = ap (λ x. once x (t.next c)) r.from in
       let d = times-append (t.next c) (places xs) (c ∷ places ys) in
       let n = ap (times (t.next c)) names in
       omega arith in
       record {
-        next = ring_below t (xs ++ item c e ∷ ys) frees (t.next c) h head_stands;
-        previous = ring_below t (xs ++ item c e ∷ ys) frees (t.previous c) h last_stands;
+        next = ring_below t (xs ++ item c e ∷ ys) free_places (t.next c) h head_stands;
+        previous = ring_below t (xs ++ item c e ∷ ys) free_places (t.previous c) h last_stands;
       }
 
   -- what is after the place of an element is the first of those behind it
   pub record After (t : Table E) (items : List (ChainItem E)) (c : ℕ) : Type 0 where
-    pub none : t.next c ≡ end → None ≡ place_after items c
-    pub some : t.next c ≢ end → Some (t.next c) ≡ place_after items c
+    pub none : t.next c ≡ nil → None ≡ place_after items c
+    pub some : t.next c ≢ nil → Some (t.next c) ≡ place_after items c
 
-  pub after_is : (t : Table E) (items : List (ChainItem E)) (frees : List ℕ) (c : ℕ) (e : E) → HoldsItems t items frees
+  pub after_is : (t : Table E) (items : List (ChainItem E)) (free_places : List ℕ) (c : ℕ) (e : E) → HoldsItems t items free_places
       → Some e ≡ t.element c → After t items c
-  after_is t items frees c e h is =
+  after_is t items free_places c e h is =
       let s = found_some items c e (sym (h.elements c) ∙ sym is) in
       let names : places items ≡ places s.before ++ c ∷ places s.after =
       ap places s.is ∙ map-append (λ (x : ChainItem E). x.place) s.before (item c e ∷ s.after) in
-      let ring = ring_of t items frees h in
+      let ring = ring_of t items free_places h in
       let r = around t.next t.previous (places s.before) c (places s.after) (subst (Ring t.next t.previous) names ring) in
       let most = ring.apart c in
       let n = ap (times c) names in
       let a = times-append c (places s.before) (c ∷ places s.after) in
       let o = once_same c in
-      let none_end = h.beyond end h.fits in
-      let m = ap (times end) names in
-      let d = times-append end (places s.before) (c ∷ places s.after) in
+      let none_end = h.beyond nil h.fits in
+      let m = ap (times nil) names in
+      let d = times-append nil (places s.before) (c ∷ places s.after) in
       let heads_are = heads r.head r.rest s.after (omega arith) r.begins in
       let after : first_place s.after ≡ place_after items c =
       sym (ap (λ (l : List (ChainItem E)). place_after l c) s.is ∙ after_at s.before s.after c e (omega arith)) in
@@ -113,7 +114,7 @@ module _ {L E Z : Type 0} where
     nexts = h.nexts;
     previouses = h.previouses;
     elements = λ k. h.elements k ∙ with_self (element_at old) c None k (sym none);
-    frees = h.frees;
+    first_free = h.first_free;
   }
 
   -- the same links have the same table
@@ -124,8 +125,8 @@ module _ {L E Z : Type 0} where
   pub same_kept : (old new : Links L E Z) (n : ℕ) → Same old new → IsChain old n → IsChain new n
   same_kept old new n h k = record {
     items = k.items;
-    frees = k.frees;
-    holds = subst (λ t. HoldsItems t k.items k.frees) (sym (same_table old new h)) k.holds;
+    free_places = k.free_places;
+    holds = subst (λ t. HoldsItems t k.items k.free_places) (sym (same_table old new h)) k.holds;
     count = k.count;
   }
 
@@ -134,32 +135,32 @@ module _ {L E Z : Type 0} where
       → chain_of new n ≡ v
   same_chain old new n v h is =
       (λ i. record {
-        items = walk_in ((same_table old new h) i) (((same_table old new h) i).next end) n;
-        room = min (h.capacity i) end - n;
+        items = walk_in ((same_table old new h) i) (((same_table old new h) i).next nil) n;
+        room = min (h.capacity i) nil - n;
       }) ∙ is
 
   -- the elements that the links hold are those of the chain
-  pub walked : (s : Links L E Z) (n : ℕ) (items : List (ChainItem (LabelledValue L E))) (frees : List ℕ)
-      → HoldsItems (table_of s) items frees → n ≡ length items
+  pub walked : (s : Links L E Z) (n : ℕ) (items : List (ChainItem (LabelledValue L E))) (free_places : List ℕ)
+      → HoldsItems (table_of s) items free_places → n ≡ length items
       → walk_in (table_of s) s.first n ≡ items
-  walked s n items frees h e = ap (λ m. walk_in (table_of s) s.first m) e ∙ walk_is (table_of s) items frees h
+  walked s n items free_places h e = ap (λ m. walk_in (table_of s) s.first m) e ∙ walk_is (table_of s) items free_places h
 
   -- the elements that are kept are those of the chain
   pub kept_items : (s : Links L E Z) (n : ℕ) (v : ChainState (LabelledValue L E)) (k : IsChain s n) → chain_of s n ≡ v → k.items ≡ v.items
-  kept_items s n v k is = sym (walked s n k.items k.frees k.holds k.count) ∙ ap (λ (x : ChainState (LabelledValue L E)). x.items) is
+  kept_items s n v k is = sym (walked s n k.items k.free_places k.holds k.count) ∙ ap (λ (x : ChainState (LabelledValue L E)). x.items) is
 
   -- how many more elements fit if no place is free
-  pub full_room : (s : Links L E Z) (items : List (ChainItem (LabelledValue L E))) (frees : List ℕ) → s.free ≡ end
-      → HoldsItems (table_of s) items frees
+  pub full_room : (s : Links L E Z) (items : List (ChainItem (LabelledValue L E))) (free_places : List ℕ) → s.free ≡ nil
+      → HoldsItems (table_of s) items free_places
       → vec_len s.nodes ≡ length items
-  full_room s items frees e h = let n = none_free (table_of s) items frees h e in let w = h.total in omega arith
+  full_room s items free_places e h = let n = none_free (table_of s) items free_places h e in let w = h.total in omega arith
 
   -- with one more before a place, the elements are those ahead of it, it, and those behind it
-  pub put_items : (s : Links L E Z) (items : List (ChainItem (LabelledValue L E))) (frees : List ℕ) (c : ℕ) (x : (LabelledValue L E))
+  pub put_items : (s : Links L E Z) (items : List (ChainItem (LabelledValue L E))) (free_places : List ℕ) (c : ℕ) (x : (LabelledValue L E))
       (y : ChainItem (LabelledValue L E)) (r : Split items c x)
-      → HoldsItems (table_of s) items frees → put_before items c y ≡ r.before ++ y ∷ item c x ∷ r.after
-  put_items s items frees c x y r h =
-      let ring = ring_of (table_of s) items frees h in
+      → HoldsItems (table_of s) items free_places → put_before items c y ≡ r.before ++ y ∷ item c x ∷ r.after
+  put_items s items free_places c x y r h =
+      let ring = ring_of (table_of s) items free_places h in
       let most = ring.apart c in
       let names : places items ≡ places r.before ++ c ∷ places r.after =
       ap places r.is ∙ map-append (λ (z : ChainItem (LabelledValue L E)). z.place) r.before (item c x ∷ r.after) in
@@ -176,31 +177,33 @@ module _ {L E Z : Type 0} where
       (element_at old) c
 
   -- what a place is found in: those ahead of it and those behind it
-  pub found_split : (s : Links L E Z) (items : List (ChainItem (LabelledValue L E))) (frees : List ℕ) (c : ℕ) (e : (LabelledValue L E))
-      → HoldsItems (table_of s) items frees
+  pub found_split : (s : Links L E Z) (items : List (ChainItem (LabelledValue L E))) (free_places : List ℕ) (c : ℕ)
+      (e : (LabelledValue L E))
+      → HoldsItems (table_of s) items free_places
       → Some e ≡ element_at s c → Split items c e
-  found_split s items frees c e h is = found_some items c e (sym (h.elements c) ∙ sym is)
+  found_split s items free_places c e h is = found_some items c e (sym (h.elements c) ∙ sym is)
 
   -- links with the element at a place taken out
-  pub take_holds : (old mid new : Links L E Z) (items : List (ChainItem (LabelledValue L E))) (frees : List ℕ) (c : ℕ)
+  pub take_holds : (old mid new : Links L E Z) (items : List (ChainItem (LabelledValue L E))) (free_places : List ℕ) (c : ℕ)
       (e : (LabelledValue L E)) (r : Split items c e)
-      → HoldsItems (table_of old) items frees
+      → HoldsItems (table_of old) items free_places
       → Linked old mid (next_at old) (previous_at old) (with (element_at old) c None) old.free → Bypassed mid new c
-      → HoldsItems (table_of new) (r.before ++ r.after) (c ∷ frees)
-  take_holds old mid new items frees c e r h emptied_is bypassed_is =
+      → HoldsItems (table_of new) (r.before ++ r.after) (c ∷ free_places)
+  take_holds old mid new items free_places c e r h emptied_is bypassed_is =
       let t : table_of mid ≡ emptied (table_of old) c = linked_table old mid _ _ _ _ emptied_is in
       let u : table_of new ≡ bypassed (table_of mid) c = linked_table mid new _ _ _ _ bypassed_is in
-      let held : HoldsItems (table_of old) (r.before ++ item c e ∷ r.after) frees =
-      subst (λ (l : List (ChainItem (LabelledValue L E))). HoldsItems (table_of old) l frees) r.is h in
-      subst (λ x. HoldsItems x (r.before ++ r.after) (c ∷ frees)) (sym (u ∙ ap (λ x. bypassed x c) t))
-      (takes (table_of old) r.before r.after c e frees held)
+      let held : HoldsItems (table_of old) (r.before ++ item c e ∷ r.after) free_places =
+      subst (λ (l : List (ChainItem (LabelledValue L E))). HoldsItems (table_of old) l free_places) r.is h in
+      subst (λ x. HoldsItems x (r.before ++ r.after) (c ∷ free_places)) (sym (u ∙ ap (λ x. bypassed x c) t))
+      (takes (table_of old) r.before r.after c e free_places held)
 
   -- the elements without that at a place are those ahead of it and those behind it
-  pub taken_items : (s : Links L E Z) (items : List (ChainItem (LabelledValue L E))) (frees : List ℕ) (c : ℕ) (e : (LabelledValue L E))
+  pub taken_items : (s : Links L E Z) (items : List (ChainItem (LabelledValue L E))) (free_places : List ℕ) (c : ℕ)
+      (e : (LabelledValue L E))
       (r : Split items c e)
-      → HoldsItems (table_of s) items frees → without_place items c ≡ r.before ++ r.after
-  taken_items s items frees c e r h =
-      let ring = ring_of (table_of s) items frees h in
+      → HoldsItems (table_of s) items free_places → without_place items c ≡ r.before ++ r.after
+  taken_items s items free_places c e r h =
+      let ring = ring_of (table_of s) items free_places h in
       let most = ring.apart c in
       let names : places items ≡ places r.before ++ c ∷ places r.after =
       ap places r.is ∙ map-append (λ (x : ChainItem (LabelledValue L E)). x.place) r.before (item c e ∷ r.after) in
@@ -211,10 +214,10 @@ module _ {L E Z : Type 0} where
       ∙ without_at r.before r.after c e (omega arith) (omega arith)
 
   -- links with no nodes are of no elements
-  pub new_kept : (s : Links L E Z) → vec_len s.nodes ≡ 0 → s.first ≡ end → s.last ≡ end → s.free ≡ end → IsChain s 0
+  pub new_kept : (s : Links L E Z) → vec_len s.nodes ≡ 0 → s.first ≡ nil → s.last ≡ nil → s.free ≡ nil → IsChain s 0
   new_kept s size first last free = record {
     items = [];
-    frees = [];
+    free_places = [];
     holds = record {
       forward = ap (λ (k : ℕ). k ∷ []) first;
       backward = ap (λ (k : ℕ). k ∷ []) last;
@@ -229,21 +232,22 @@ module _ {L E Z : Type 0} where
   }
 
   -- the places next to that of an element, once it was taken out of its node
-  pub beside_taken : (old mid : Links L E Z) (items : List (ChainItem (LabelledValue L E))) (frees : List ℕ) (c : ℕ)
+  pub beside_taken : (old mid : Links L E Z) (items : List (ChainItem (LabelledValue L E))) (free_places : List ℕ) (c : ℕ)
       (e : (LabelledValue L E)) (r : Split items c e)
-      → HoldsItems (table_of old) items frees
+      → HoldsItems (table_of old) items free_places
       → Linked old mid (next_at old) (previous_at old) (with (element_at old) c None) old.free → Neighbours (table_of mid) c
-  beside_taken old mid items frees c e r h emptied_is =
-      let n = neighbours (table_of old) r.before r.after c e frees
-      (subst (λ (l : List (ChainItem (LabelledValue L E))). HoldsItems (table_of old) l frees) r.is h) in
+  beside_taken old mid items free_places c e r h emptied_is =
+      let n = neighbours (table_of old) r.before r.after c e free_places
+      (subst (λ (l : List (ChainItem (LabelledValue L E))). HoldsItems (table_of old) l free_places) r.is h) in
       let again : Neighbours (emptied (table_of old) c) c = record { next = n.next; previous = n.previous } in
       subst (λ t. Neighbours t c) (sym (linked_table old mid _ _ _ _ emptied_is)) again
 
   -- if there is an element, its place is below the size
-  pub place_below : (s : Links L E Z) (items : List (ChainItem (LabelledValue L E))) (frees : List ℕ) (c : ℕ) (e : (LabelledValue L E))
+  pub place_below : (s : Links L E Z) (items : List (ChainItem (LabelledValue L E))) (free_places : List ℕ) (c : ℕ)
+      (e : (LabelledValue L E))
       (r : Split items c e)
-      → HoldsItems (table_of s) items frees → c < vec_len s.nodes
-  place_below s items frees c e r h = elim (cases_lt c (vec_len s.nodes)) [
+      → HoldsItems (table_of s) items free_places → c < vec_len s.nodes
+  place_below s items free_places c e r h = elim (cases_lt c (vec_len s.nodes)) [
     | inl lt ↦ lt
     | inr ge ↦ (
         let none = h.beyond c ge in
@@ -260,11 +264,11 @@ module _ {L E Z : Type 0} where
 module _ {L E Z : Type 0} (old mid : Links L E Z) (n c : ℕ) (e : LabelledValue L E) (k : IsChain old n) (is : Some e ≡ element_at old c)
     (emptied_is : Linked old mid (next_at old) (previous_at old) (with (element_at old) c None) old.free) where
   split : Split k.items c e
-  split = found_split old k.items k.frees c e k.holds is
+  split = found_split old k.items k.free_places c e k.holds is
 
   -- the places next to it
   pub beside_emptied : Neighbours (table_of mid) c
-  beside_emptied = beside_taken old mid k.items k.frees c e split k.holds emptied_is
+  beside_emptied = beside_taken old mid k.items k.free_places c e split k.holds emptied_is
 
   -- as many as there were, but one
   one_fewer : n - 1 ≡ length (split.before ++ split.after)
@@ -276,25 +280,25 @@ module _ {L E Z : Type 0} (old mid : Links L E Z) (n c : ℕ) (e : LabelledValue
       omega arith
 
   module _ (new : Links L E Z) (bypassed_is : Bypassed mid new c) where
-    left_holds : HoldsItems (table_of new) (split.before ++ split.after) (c ∷ k.frees)
-    left_holds = take_holds old mid new k.items k.frees c e split k.holds emptied_is bypassed_is
+    left_holds : HoldsItems (table_of new) (split.before ++ split.after) (c ∷ k.free_places)
+    left_holds = take_holds old mid new k.items k.free_places c e split k.holds emptied_is bypassed_is
 
     -- once the place is out of the links, they are of the others
     pub left_kept : IsChain new (n - 1)
-    left_kept = record { items = split.before ++ split.after; frees = c ∷ k.frees; holds = left_holds; count = one_fewer }
+    left_kept = record { items = split.before ++ split.after; free_places = c ∷ k.free_places; holds = left_holds; count = one_fewer }
 
     -- in their order
     pub left_items : (v : ChainState (LabelledValue L E)) → chain_of old n ≡ v
         → walk_in (table_of new) new.first (n - 1) ≡ without_place v.items c
     left_items v view =
-        walked new (n - 1) (split.before ++ split.after) (c ∷ k.frees) left_holds one_fewer
-        ∙ sym (taken_items old k.items k.frees c e split k.holds) ∙ ap (λ l. without_place l c) (kept_items old n v k view)
+        walked new (n - 1) (split.before ++ split.after) (c ∷ k.free_places) left_holds one_fewer
+        ∙ sym (taken_items old k.items k.free_places c e split k.holds) ∙ ap (λ l. without_place l c) (kept_items old n v k view)
 
     -- and as many fit
     pub left_room : (v : ChainState (LabelledValue L E)) → chain_of old n ≡ v
         → room_of new (n - 1) + length (walk_in (table_of new) new.first (n - 1)) ≡ v.room + length v.items
     left_room v view =
-        let left = ap length (walked new (n - 1) (split.before ++ split.after) (c ∷ k.frees) left_holds one_fewer) in
+        let left = ap length (walked new (n - 1) (split.before ++ split.after) (c ∷ k.free_places) left_holds one_fewer) in
         let stood = ap length (kept_items old n v k view) in
         let room = ap (λ (x : ChainState (LabelledValue L E)). x.room) view in
         let same = bypassed_is.capacity ∙ emptied_is.capacity in

@@ -25,7 +25,7 @@ module _ {L E Z : Type 0} where
   pub apart_kept : (s : Links L E Z) (n : ℕ) (v : ChainState (LabelledValue L E)) → IsChain s n → chain_of s n ≡ v → (j : ℕ)
       → times j (places v.items) ≤ 1
   apart_kept s n v k is j =
-      let ring = ring_of (table_of s) k.items k.frees k.holds in
+      let ring = ring_of (table_of s) k.items k.free_places k.holds in
       let most = ring.apart j in
       let same = ap (λ l. times j (places l)) (kept_items s n v k is) in
       omega arith

@@ -4,7 +4,7 @@ use Rattle.std.proofs.Common.{sym, ap, ap₂, subst, ◌∙◌, arith, length-ap
 use Rattle.std.specs.Vec.{vec_len}
 use Rattle.flume_chain.specs.declared.chain.links.Links.{Links}
 use Rattle.flume_chain.specs.declared.labelled.LabelledValue.{LabelledValue}
-use Rattle.flume_chain.specs.Links.{end, with, next_at, previous_at, element_at, Linked, HasNode}
+use Rattle.flume_chain.specs.Links.{nil, with, next_at, previous_at, element_at, Linked, HasNode}
 use Rattle.flume_chain.specs.ChainState.{once, ChainItem, ChainState, Table, HoldsItems, IsChain, places}
 use Rattle.flume_chain.specs.ChainState.{found, listed, moved_back, table_of, chain_of}
 use Rattle.flume_chain.proofs.RingLemmas.{once_same, with_same}
@@ -20,19 +20,20 @@ module _ {L E Z : Type 0} where
     pub rest : List (ChainItem (LabelledValue L E))
     pub is : items ≡ item s.first element ∷ rest
     pub occupied : element_at s s.first ≡ Some element
-    pub before : previous_at s s.first ≡ end
+    pub before : previous_at s s.first ≡ nil
 
   -- if a place is the first, there is an element there
-  pub begun : (s : Links L E Z) (items : List (ChainItem (LabelledValue L E))) (frees : List ℕ) → HoldsItems (table_of s) items frees
-      → s.first ≢ end → Begun s items
-  begun s [] frees h ne =
-      let f : s.first ∷ [] ≡ end ∷ [] = h.forward in
+  pub begun : (s : Links L E Z) (items : List (ChainItem (LabelledValue L E))) (free_places : List ℕ)
+      → HoldsItems (table_of s) items free_places
+      → s.first ≢ nil → Begun s items
+  begun s [] free_places h ne =
+      let f : s.first ∷ [] ≡ nil ∷ [] = h.forward in
       absurd (ne cc)
-  begun s (x ∷ xs) frees h ne =
-      let f : s.first ∷ map (next_at s) (x.place ∷ places xs) ≡ x.place ∷ (places xs ++ end ∷ []) = h.forward in
+  begun s (x ∷ xs) free_places h ne =
+      let f : s.first ∷ map (next_at s) (x.place ∷ places xs) ≡ x.place ∷ (places xs ++ nil ∷ []) = h.forward in
       let name : s.first ≡ x.place = cc in
-      let b : previous_at s x.place ∷ map (previous_at s) (places xs ++ end ∷ []) ≡ end ∷ x.place ∷ places xs = h.backward in
-      let ahead : previous_at s x.place ≡ end = cc in
+      let b : previous_at s x.place ∷ map (previous_at s) (places xs ++ nil ∷ []) ≡ nil ∷ x.place ∷ places xs = h.backward in
+      let ahead : previous_at s x.place ≡ nil = cc in
       record {
         element = x.element;
         rest = xs;
@@ -43,15 +44,16 @@ module _ {L E Z : Type 0} where
       }
 
   -- if no place is the first, there is no element
-  pub none_begun : (s : Links L E Z) (items : List (ChainItem (LabelledValue L E))) (frees : List ℕ) → HoldsItems (table_of s) items frees
-      → s.first ≡ end → items ≡ []
-  none_begun s [] frees h is = refl
-  none_begun s (x ∷ xs) frees h is =
-      let f : s.first ∷ map (next_at s) (x.place ∷ places xs) ≡ x.place ∷ (places xs ++ end ∷ []) = h.forward in
+  pub none_begun : (s : Links L E Z) (items : List (ChainItem (LabelledValue L E))) (free_places : List ℕ)
+      → HoldsItems (table_of s) items free_places
+      → s.first ≡ nil → items ≡ []
+  none_begun s [] free_places h is = refl
+  none_begun s (x ∷ xs) free_places h is =
+      let f : s.first ∷ map (next_at s) (x.place ∷ places xs) ≡ x.place ∷ (places xs ++ nil ∷ []) = h.forward in
       let name : s.first ≡ x.place = cc in
-      let none = h.beyond end h.fits in
-      let here = once_same end in
-      let there = ap (λ k. once k end) (sym is ∙ name) in
+      let none = h.beyond nil h.fits in
+      let here = once_same nil in
+      let there = ap (λ k. once k nil) (sym is ∙ name) in
       absurd (omega arith)
 
   -- the first element is ahead of those behind it
@@ -61,16 +63,16 @@ module _ {L E Z : Type 0} where
   -- what is written to take the first element out of its node, and then that node out of the links
   abbrev pub FirstTaken : Links L E Z → Links L E Z → Type 0
   FirstTaken old new = Linked old new
-      (with (with (next_at old) end (next_at old old.first)) old.first old.free)
-      (with (previous_at old) (next_at old old.first) end)
+      (with (with (next_at old) nil (next_at old old.first)) old.first old.free)
+      (with (previous_at old) (next_at old old.first) nil)
       (with (element_at old) old.first None) old.first
 
   -- links with the first element taken out hold those behind it
-  pub first_taken : (old new : Links L E Z) (items : List (ChainItem (LabelledValue L E))) (frees : List ℕ) (b : Begun old items)
-      → HoldsItems (table_of old) items frees → FirstTaken old new → HoldsItems (table_of new) b.rest (old.first ∷ frees)
-  first_taken old new items frees b h t =
-      let held : HoldsItems (table_of old) (item old.first b.element ∷ b.rest) frees =
-      subst (λ (l : List (ChainItem (LabelledValue L E))). HoldsItems (table_of old) l frees) b.is h in
+  pub first_taken : (old new : Links L E Z) (items : List (ChainItem (LabelledValue L E))) (free_places : List ℕ) (b : Begun old items)
+      → HoldsItems (table_of old) items free_places → FirstTaken old new → HoldsItems (table_of new) b.rest (old.first ∷ free_places)
+  first_taken old new items free_places b h t =
+      let held : HoldsItems (table_of old) (item old.first b.element ∷ b.rest) free_places =
+      subst (λ (l : List (ChainItem (LabelledValue L E))). HoldsItems (table_of old) l free_places) b.is h in
       let is : table_of new ≡ bypassed (emptied (table_of old) old.first) old.first =
       linked_table old new _ _ _ _ t ∙ ap (λ (p : ℕ). record {
         size = vec_len old.nodes;
@@ -79,7 +81,8 @@ module _ {L E Z : Type 0} where
         element = with (element_at old) old.first None;
         free = old.first;
       }) (sym b.before) in
-      subst (λ x. HoldsItems x b.rest (old.first ∷ frees)) (sym is) (takes (table_of old) [] b.rest old.first b.element frees held)
+      subst (λ x. HoldsItems x b.rest (old.first ∷ free_places)) (sym is)
+      (takes (table_of old) [] b.rest old.first b.element free_places held)
 
 module _ {E : Type 0} where
   -- a table with a place linked out of it
@@ -96,21 +99,21 @@ module _ {E : Type 0} where
   abbrev pub appended : Table E → ℕ → Table E
   appended t c = record {
     size = t.size;
-    next = with (with t.next c end) (t.previous end) c;
-    previous = with (with t.previous c (t.previous end)) end c;
+    next = with (with t.next c nil) (t.previous nil) c;
+    previous = with (with t.previous c (t.previous nil)) nil c;
     element = t.element;
     free = t.free;
   }
 
   -- to link an element out and behind all others is to take it out and put it there again
-  moved_table : (t : Table E) (c : ℕ) (e : E) → Some e ≡ t.element c → appended (unlinked t c) c ≡ filled (bypassed (emptied t c) c) end e
+  moved_table : (t : Table E) (c : ℕ) (e : E) → Some e ≡ t.element c → appended (unlinked t c) c ≡ filled (bypassed (emptied t c) c) nil e
   moved_table t c e is =
       let f = with t.next (t.previous c) (t.next c) in
       let g = with t.previous (t.next c) (t.previous c) in
       λ i. record {
         size = t.size;
-        next = λ k. (ap (λ v. if k == g end then c else v) (sym (with_twice f c t.free end k))) i;
-        previous = with (with g c (g end)) end c;
+        next = λ k. (ap (λ v. if k == g nil then c else v) (sym (with_twice f c t.free nil k))) i;
+        previous = with (with g c (g nil)) nil c;
         element = λ k. (sym (with_again t.element c (Some e) None k (sym is))) i;
         free = (sym (with_same f c t.free)) i;
       }
@@ -123,18 +126,18 @@ module _ {L E Z : Type 0} (old mid : Links L E Z) (n c : ℕ) (e : (LabelledValu
     (element_at old) old.free) where
   -- the elements ahead of it and behind it
   split : Split k.items c e
-  split = found_split old k.items k.frees c e k.holds is
+  split = found_split old k.items k.free_places c e k.holds is
 
   -- the table with the element taken out
-  left : HoldsItems (bypassed (emptied (table_of old) c) c) (split.before ++ split.after) (c ∷ k.frees)
-  left = takes (table_of old) split.before split.after c e k.frees
-      (subst (λ (l : List (ChainItem (LabelledValue L E))). HoldsItems (table_of old) l k.frees) split.is k.holds)
+  left : HoldsItems (bypassed (emptied (table_of old) c) c) (split.before ++ split.after) (c ∷ k.free_places)
+  left = takes (table_of old) split.before split.after c e k.free_places
+      (subst (λ (l : List (ChainItem (LabelledValue L E))). HoldsItems (table_of old) l k.free_places) split.is k.holds)
 
-  -- the last place is the end or below the size
+  -- the last place is nil or below the size
   pub last_stands : HasNode mid mid.last
   last_stands ne =
-      let below = last_below (bypassed (emptied (table_of old) c) c) (split.before ++ split.after) (c ∷ k.frees) left in
-      let same = out.previouses end in
+      let below = last_below (bypassed (emptied (table_of old) c) c) (split.before ++ split.after) (c ∷ k.free_places) left in
+      let same = out.previouses nil in
       let size = out.size in
       let lt = below (λ q. ne (same ∙ q)) in
       omega arith
@@ -142,8 +145,8 @@ module _ {L E Z : Type 0} (old mid : Links L E Z) (n c : ℕ) (e : (LabelledValu
   -- what is written to link the place behind all others
   abbrev pub LinkedLast : Links L E Z → Type 0
   LinkedLast new = Linked mid new
-      (with (with (next_at mid) c end) mid.last c)
-      (with (with (previous_at mid) c mid.last) end c)
+      (with (with (next_at mid) c nil) mid.last c)
+      (with (with (previous_at mid) c mid.last) nil c)
       (element_at mid) mid.free
 
   -- the links are of the elements with that one behind all others
@@ -154,9 +157,9 @@ module _ {L E Z : Type 0} (old mid : Links L E Z) (n c : ℕ) (e : (LabelledValu
       let all = two ∙ ap (λ t. appended t c) one ∙ moved_table (table_of old) c e is in
       record {
         items = (split.before ++ split.after) ++ item c e ∷ [];
-        frees = k.frees;
-        holds = subst (λ t. HoldsItems t ((split.before ++ split.after) ++ item c e ∷ []) k.frees) (sym all)
-            (puts_last (bypassed (emptied (table_of old) c) c) (split.before ++ split.after) k.frees e left);
+        free_places = k.free_places;
+        holds = subst (λ t. HoldsItems t ((split.before ++ split.after) ++ item c e ∷ []) k.free_places) (sym all)
+            (puts_last (bypassed (emptied (table_of old) c) c) (split.before ++ split.after) k.free_places e left);
         count =
             let a = length-append split.before split.after in
             let b = length-append (split.before ++ split.after) (item c e ∷ []) in
@@ -172,7 +175,7 @@ module _ {L E Z : Type 0} (old mid : Links L E Z) (n c : ℕ) (e : (LabelledValu
   unfolding moved_kept
   moved_items v view new last =
       let m = moved_kept new last in
-      walked new n m.items m.frees m.holds m.count
+      walked new n m.items m.free_places m.holds m.count
       ∙ sym (ap₂ (λ (l : List (ChainItem (LabelledValue L E))) (o : Option (LabelledValue L E)). l ++ listed c o [])
-      (taken_items old k.items k.frees c e split k.holds) (sym (k.holds.elements c) ∙ sym is))
+      (taken_items old k.items k.free_places c e split k.holds) (sym (k.holds.elements c) ∙ sym is))
       ∙ ap (λ l. moved_back l c) (kept_items old n v k view)

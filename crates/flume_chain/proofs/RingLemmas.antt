@@ -1,8 +1,8 @@
--- A ring of places: each has one after it and one before it, and `end` closes it.
+-- A ring of places: each has one after it and one before it, and `nil` closes it.
 use Rattle.std.proofs.Common.{◌≡◌, ℕ, suc, ◌+◌, ◌≤◌, ◌==◌, List, [], ◌∷◌, ◌++◌, false, map, length, refl, sym}
 use Rattle.std.proofs.Common.{ap, ap₂, ◌∙◌, inl, inr, arith, length-append, if◌then◌else◌, eq-eqb, ne_eqb}
 use Rattle.std.proofs.lemmas.Bool.{cases_Bool, cases_eq, eqb-false}
-use Rattle.flume_chain.specs.Links.{end, with}
+use Rattle.flume_chain.specs.Links.{nil, with}
 use Rattle.flume_chain.specs.ChainState.{once, times}
 
 -- a place is as often in two lists joined as in both
@@ -96,6 +96,6 @@ begins (x ∷ xs) y = record { head = x; rest = xs ++ y ∷ []; is = refl; long 
 
 -- f leads round the ring of these places, g round it the other way, and none is in it twice
 pub record Ring (f g : ℕ → ℕ) (xs : List ℕ) : Type 0 where
-  pub forward : map f (end ∷ xs) ≡ xs ++ end ∷ []
-  pub backward : map g (xs ++ end ∷ []) ≡ end ∷ xs
-  pub apart : (k : ℕ) → times k (end ∷ xs) ≤ 1
+  pub forward : map f (nil ∷ xs) ≡ xs ++ nil ∷ []
+  pub backward : map g (xs ++ nil ∷ []) ≡ nil ∷ xs
+  pub apart : (k : ℕ) → times k (nil ∷ xs) ≤ 1

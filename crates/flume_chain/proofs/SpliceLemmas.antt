@@ -1,7 +1,7 @@
 -- A place put into a ring, and one taken out of it.
 use Rattle.std.proofs.Common.{◌≡◌, ℕ, ◌+◌, ◌≤◌, List, [], ◌∷◌, ◌++◌, map, sym, ap, ap₂, ◌∙◌, arith, append_assoc}
 use Rattle.std.proofs.lemmas.List.{map-append}
-use Rattle.flume_chain.specs.Links.{end, with}
+use Rattle.flume_chain.specs.Links.{nil, with}
 use Rattle.flume_chain.specs.ChainState.{once, times}
 use Rattle.flume_chain.proofs.RingLemmas.{Ring, parts, ends, begins, times-append, once_same, once_back}
 use Rattle.flume_chain.proofs.RingLemmas.{once_more, with_same, with_other, map_with}
@@ -12,8 +12,8 @@ pub record Between (f g : ℕ → ℕ) (xs ys : List ℕ) : Type 0 where
   pub last : ℕ
   pub head : ℕ
   pub rest : List ℕ
-  pub ends : end ∷ xs ≡ front ++ last ∷ []
-  pub begins : ys ++ end ∷ [] ≡ head ∷ rest
+  pub ends : nil ∷ xs ≡ front ++ last ∷ []
+  pub begins : ys ++ nil ∷ [] ≡ head ∷ rest
   pub ahead : map f front ≡ xs
   pub over : f last ≡ head
   pub behind : map f ys ≡ rest
@@ -26,12 +26,12 @@ pub record Between (f g : ℕ → ℕ) (xs ys : List ℕ) : Type 0 where
 -- each two lists that make up a ring meet so
 pub between : (f g : ℕ → ℕ) (xs ys : List ℕ) → Ring f g (xs ++ ys) → Between f g xs ys
 between f g xs ys r =
-    let e = ends end xs in
-    let b = begins ys end in
-    let there : e.front ++ (e.last ∷ ys) ≡ end ∷ (xs ++ ys) =
+    let e = ends nil xs in
+    let b = begins ys nil in
+    let there : e.front ++ (e.last ∷ ys) ≡ nil ∷ (xs ++ ys) =
     sym (append_assoc e.front (e.last ∷ []) ys) ∙ ap (λ (l : List ℕ). l ++ ys) (sym e.is) in
-    let back : xs ++ (b.head ∷ b.rest) ≡ (xs ++ ys) ++ end ∷ [] =
-    ap (λ (l : List ℕ). xs ++ l) (sym b.is) ∙ sym (append_assoc xs ys (end ∷ [])) in
+    let back : xs ++ (b.head ∷ b.rest) ≡ (xs ++ ys) ++ nil ∷ [] =
+    ap (λ (l : List ℕ). xs ++ l) (sym b.is) ∙ sym (append_assoc xs ys (nil ∷ [])) in
     let to : map f (e.front ++ (e.last ∷ ys)) ≡ xs ++ (b.head ∷ b.rest) =
     ap (map f) there ∙ r.forward ∙ sym back in
     let from : map g (xs ++ (b.head ∷ b.rest)) ≡ e.front ++ (e.last ∷ ys) =
@@ -61,7 +61,7 @@ between f g xs ys r =
       apart_back = λ k.
           let a = times-append k xs (b.head ∷ b.rest) in
           let s = ap (times k) back in
-          let d = times-append k (xs ++ ys) (end ∷ []) in
+          let d = times-append k (xs ++ ys) (nil ∷ []) in
           let h = r.apart k in
           omega arith;
     }
@@ -80,22 +80,22 @@ two p q r = one p (one q r)
 
 -- the ring with the place c put in at the cut
 pub inserted : (f g : ℕ → ℕ) (xs ys : List ℕ) (c : ℕ) → Ring f g (xs ++ ys) → (r : Between f g xs ys)
-    → times c (end ∷ (xs ++ ys)) ≡ 0
+    → times c (nil ∷ (xs ++ ys)) ≡ 0
     → Ring (with (with f c r.head) r.last c) (with (with g c r.last) r.head c) (xs ++ c ∷ ys)
 inserted f g xs ys c old r fresh =
-    let there : end ∷ (xs ++ c ∷ ys) ≡ r.front ++ (r.last ∷ c ∷ ys) =
+    let there : nil ∷ (xs ++ c ∷ ys) ≡ r.front ++ (r.last ∷ c ∷ ys) =
     ap (λ (l : List ℕ). l ++ c ∷ ys) r.ends ∙ append_assoc r.front (r.last ∷ []) (c ∷ ys) in
-    let back : (xs ++ c ∷ ys) ++ end ∷ [] ≡ xs ++ (c ∷ r.head ∷ r.rest) =
-    append_assoc xs (c ∷ ys) (end ∷ []) ∙ ap (λ (l : List ℕ). xs ++ (c ∷ l)) r.begins in
-    let counts : (k : ℕ) → times k (end ∷ (xs ++ ys)) ≡ times k r.front + once r.last k + times k ys = λ k.
+    let back : (xs ++ c ∷ ys) ++ nil ∷ [] ≡ xs ++ (c ∷ r.head ∷ r.rest) =
+    append_assoc xs (c ∷ ys) (nil ∷ []) ∙ ap (λ (l : List ℕ). xs ++ (c ∷ l)) r.begins in
+    let counts : (k : ℕ) → times k (nil ∷ (xs ++ ys)) ≡ times k r.front + once r.last k + times k ys = λ k.
     let a = times-append k xs ys in
     let s = ap (times k) r.ends in
     let d = times-append k r.front (r.last ∷ []) in
     omega arith in
-    let counts_back : (k : ℕ) → times k (end ∷ (xs ++ ys)) ≡ times k xs + once r.head k + times k r.rest = λ k.
+    let counts_back : (k : ℕ) → times k (nil ∷ (xs ++ ys)) ≡ times k xs + once r.head k + times k r.rest = λ k.
     let a = times-append k xs ys in
     let s = ap (times k) r.begins in
-    let d = times-append k ys (end ∷ []) in
+    let d = times-append k ys (nil ∷ []) in
     omega arith in
     let c_none = counts c in
     let c_none_back = counts_back c in
@@ -123,7 +123,7 @@ inserted f g xs ys c old r fresh =
       forward = ap (map f') there ∙ map-append f' r.front (r.last ∷ c ∷ ys) ∙ joined f_front (two f_last f_c f_ys) ∙ sym back;
       backward = ap (map g') back ∙ map-append g' xs (c ∷ r.head ∷ r.rest) ∙ joined g_xs (two g_c g_head g_rest) ∙ sym there;
       apart = λ k.
-          let h = once_more (λ x. times x (end ∷ (xs ++ ys))) c k fresh (old.apart k) in
+          let h = once_more (λ x. times x (nil ∷ (xs ++ ys))) c k fresh (old.apart k) in
           let a = times-append k xs ys in
           let d = times-append k xs (c ∷ ys) in
           omega arith;
@@ -135,8 +135,8 @@ pub record Around (f g : ℕ → ℕ) (xs : List ℕ) (c : ℕ) (ys : List ℕ) 
   pub last : ℕ
   pub head : ℕ
   pub rest : List ℕ
-  pub ends : end ∷ xs ≡ front ++ last ∷ []
-  pub begins : ys ++ end ∷ [] ≡ head ∷ rest
+  pub ends : nil ∷ xs ≡ front ++ last ∷ []
+  pub begins : ys ++ nil ∷ [] ≡ head ∷ rest
   pub ahead : map f front ≡ xs
   pub to : f last ≡ c
   pub from : f c ≡ head
@@ -152,10 +152,10 @@ pub record Around (f g : ℕ → ℕ) (xs : List ℕ) (c : ℕ) (ys : List ℕ) 
 pub around : (f g : ℕ → ℕ) (xs : List ℕ) (c : ℕ) (ys : List ℕ) → Ring f g (xs ++ c ∷ ys) → Around f g xs c ys
 around f g xs c ys ring =
     let r = between f g xs (c ∷ ys) ring in
-    let b = begins ys end in
-    let r_begins : c ∷ (ys ++ end ∷ []) ≡ r.head ∷ r.rest = r.begins in
+    let b = begins ys nil in
+    let r_begins : c ∷ (ys ++ nil ∷ []) ≡ r.head ∷ r.rest = r.begins in
     let head_is : r.head ≡ c = cc in
-    let rest_is : r.rest ≡ b.head ∷ b.rest = let tails : ys ++ end ∷ [] ≡ r.rest = cc in sym tails ∙ b.is in
+    let rest_is : r.rest ≡ b.head ∷ b.rest = let tails : ys ++ nil ∷ [] ≡ r.rest = cc in sym tails ∙ b.is in
     let out : f c ∷ map f ys ≡ b.head ∷ b.rest = r.behind ∙ rest_is in
     let into : g b.head ∷ map g b.rest ≡ c ∷ ys = ap (map g) (sym rest_is) ∙ r.behind_back in
     record {
@@ -185,10 +185,10 @@ around f g xs c ys ring =
 pub removed : (f g : ℕ → ℕ) (xs : List ℕ) (c : ℕ) (ys : List ℕ) (v : ℕ) → Ring f g (xs ++ c ∷ ys) → (r : Around f g xs c ys)
     → Ring (with (with f r.last r.head) c v) (with g r.head r.last) (xs ++ ys)
 removed f g xs c ys v old r =
-    let there : end ∷ (xs ++ ys) ≡ r.front ++ (r.last ∷ ys) =
+    let there : nil ∷ (xs ++ ys) ≡ r.front ++ (r.last ∷ ys) =
     ap (λ (l : List ℕ). l ++ ys) r.ends ∙ append_assoc r.front (r.last ∷ []) ys in
-    let back : (xs ++ ys) ++ end ∷ [] ≡ xs ++ (r.head ∷ r.rest) =
-    append_assoc xs ys (end ∷ []) ∙ ap (λ (l : List ℕ). xs ++ l) r.begins in
+    let back : (xs ++ ys) ++ nil ∷ [] ≡ xs ++ (r.head ∷ r.rest) =
+    append_assoc xs ys (nil ∷ []) ∙ ap (λ (l : List ℕ). xs ++ l) r.begins in
     let last_once = r.apart r.last in
     let last_is = once_same r.last in
     let c_once = r.apart c in

@@ -7,7 +7,7 @@ use Rattle.std.proofs.lemmas.List.{map-append}
 use Rattle.std.specs.Vec.{vec_len}
 use Rattle.flume_chain.specs.declared.chain.links.Links.{Links}
 use Rattle.flume_chain.specs.declared.labelled.LabelledValue.{LabelledValue}
-use Rattle.flume_chain.specs.Links.{end, with, Linked}
+use Rattle.flume_chain.specs.Links.{nil, with, Linked}
 use Rattle.flume_chain.specs.ChainState.{once, times, ChainItem, Table, HoldsItems, places, found, table_of}
 use Rattle.flume_chain.proofs.RingLemmas.{Ring, times-append, once_same, once_back, with_same, map_with}
 use Rattle.flume_chain.proofs.SpliceLemmas.{between, inserted, around, removed}
@@ -22,7 +22,7 @@ module _ {L E Z : Type 0} where
     next = λ k. h.nexts k i;
     previous = λ k. h.previouses k i;
     element = λ k. h.elements k i;
-    free = h.frees i;
+    free = h.first_free i;
   }
 
 module _ {E : Type 0} where
@@ -31,7 +31,7 @@ module _ {E : Type 0} where
   grown t = record {
     size = suc t.size;
     next = with t.next t.size t.free;
-    previous = with t.previous t.size end;
+    previous = with t.previous t.size nil;
     element = with t.element t.size None;
     free = t.size;
   }
@@ -60,29 +60,31 @@ module _ {E : Type 0} where
     free = c;
   }
 
-  -- which places are free if the first free one is no end
-  pub record First (t : Table E) (frees : List ℕ) : Type 0 where
+  -- which places are free if the first free one isn't nil
+  pub record First (t : Table E) (free_places : List ℕ) : Type 0 where
     pub rest : List ℕ
-    pub is : frees ≡ t.free ∷ rest
+    pub is : free_places ≡ t.free ∷ rest
 
-  pub first_free : (t : Table E) (items : List (ChainItem E)) (frees : List ℕ) → HoldsItems t items frees → t.free ≢ end → First t frees
+  pub first_free : (t : Table E) (items : List (ChainItem E)) (free_places : List ℕ) → HoldsItems t items free_places → t.free ≢ nil
+      → First t free_places
   first_free t items [] h ne =
-      let f : t.free ∷ [] ≡ end ∷ [] = h.freed in
+      let f : t.free ∷ [] ≡ nil ∷ [] = h.freed in
       absurd (ne cc)
   first_free t items (c ∷ rest) h ne =
-      let f : t.free ∷ t.next c ∷ map t.next rest ≡ c ∷ (rest ++ end ∷ []) = h.freed in
+      let f : t.free ∷ t.next c ∷ map t.next rest ≡ c ∷ (rest ++ nil ∷ []) = h.freed in
       let same : t.free ≡ c = cc in
       record { rest = rest; is = ap (λ (k : ℕ). k ∷ rest) (sym same) }
 
-  -- no place is free if the first free one is the end
-  pub none_free : (t : Table E) (items : List (ChainItem E)) (frees : List ℕ) → HoldsItems t items frees → t.free ≡ end → length frees ≡ 0
+  -- no place is free if the first free one is nil
+  pub none_free : (t : Table E) (items : List (ChainItem E)) (free_places : List ℕ) → HoldsItems t items free_places → t.free ≡ nil
+      → length free_places ≡ 0
   none_free t items [] h e = refl
   none_free t items (c ∷ rest) h e =
-      let f : t.free ∷ t.next c ∷ map t.next rest ≡ c ∷ (rest ++ end ∷ []) = h.freed in
-      let same : c ≡ end = cc in
-      let none = h.beyond end h.fits in
-      let here = once_same end in
-      let there = ap (λ k. once k end) same in
+      let f : t.free ∷ t.next c ∷ map t.next rest ≡ c ∷ (rest ++ nil ∷ []) = h.freed in
+      let same : c ≡ nil = cc in
+      let none = h.beyond nil h.fits in
+      let here = once_same nil in
+      let there = ap (λ k. once k nil) same in
       absurd (omega arith)
 
   -- a free place is below the size
@@ -92,49 +94,50 @@ module _ {E : Type 0} where
     | inr ge ↦ (let none = h.beyond c ge in let here = once_same c in absurd (omega arith))
   ]
 
-  -- a place in the ring is the end or below the size
-  pub ring_below : (t : Table E) (items : List (ChainItem E)) (frees : List ℕ) (k : ℕ) → HoldsItems t items frees
-      → 1 ≤ times k (end ∷ places items) → k ≢ end → k < t.size
-  ring_below t items frees k h some ne = elim (cases_lt k t.size) [
+  -- a place in the ring is nil or below the size
+  pub ring_below : (t : Table E) (items : List (ChainItem E)) (free_places : List ℕ) (k : ℕ) → HoldsItems t items free_places
+      → 1 ≤ times k (nil ∷ places items) → k ≢ nil → k < t.size
+  ring_below t items free_places k h some ne = elim (cases_lt k t.size) [
     | inl lt ↦ lt
     | inr ge ↦ (
         let none = h.beyond k ge in
-        let zero_end : once end k ≡ 0 = ap (λ b. if b then 1 else 0) (ne_eqb end k (λ e. ne (sym e))) in
+        let zero_end : once nil k ≡ 0 = ap (λ b. if b then 1 else 0) (ne_eqb nil k (λ e. ne (sym e))) in
         absurd (omega arith)
         )
   ]
 
-  -- the last place is the end or below the size
-  pub last_below : (t : Table E) (items : List (ChainItem E)) (frees : List ℕ) → HoldsItems t items frees → t.previous end ≢ end
-      → t.previous end < t.size
-  last_below t items frees h =
-      let ring = ring_of t items frees h in
+  -- the last place is nil or below the size
+  pub last_below : (t : Table E) (items : List (ChainItem E)) (free_places : List ℕ) → HoldsItems t items free_places → t.previous nil ≢ nil
+      → t.previous nil < t.size
+  last_below t items free_places h =
+      let ring = ring_of t items free_places h in
       let r = between t.next t.previous (places items) [] (subst (Ring t.next t.previous) (sym (append-nil (places items))) ring) in
-      let b : end ∷ [] ≡ r.head ∷ r.rest = r.begins in
-      let head_is : r.head ≡ end = cc in
-      let last_is : t.previous end ≡ r.last = ap t.previous (sym head_is) ∙ r.over_back in
-      let occupied : 1 ≤ times r.last (end ∷ places items) =
+      let b : nil ∷ [] ≡ r.head ∷ r.rest = r.begins in
+      let head_is : r.head ≡ nil = cc in
+      let last_is : t.previous nil ≡ r.last = ap t.previous (sym head_is) ∙ r.over_back in
+      let occupied : 1 ≤ times r.last (nil ∷ places items) =
       let s = ap (times r.last) r.ends in
       let a = times-append r.last r.front (r.last ∷ []) in
       let o = once_same r.last in
       omega arith in
-      ring_below t items frees (t.previous end) h (subst (λ k. 1 ≤ times k (end ∷ places items)) (sym last_is) occupied)
+      ring_below t items free_places (t.previous nil) h (subst (λ k. 1 ≤ times k (nil ∷ places items)) (sym last_is) occupied)
 
   -- with one more node there is one more free place
-  pub grows : (t : Table E) (items : List (ChainItem E)) (frees : List ℕ) → HoldsItems t items frees → t.size < end
-      → HoldsItems (grown t) items (t.size ∷ frees)
-  grows t items frees h lt =
+  pub grows : (t : Table E) (items : List (ChainItem E)) (free_places : List ℕ) → HoldsItems t items free_places → t.size < nil
+      → HoldsItems (grown t) items (t.size ∷ free_places)
+  grows t items free_places h lt =
       let none = h.beyond t.size (omega arith) in
-      let size_end : once end t.size ≡ 0 = ap (λ b. if b then 1 else 0) (ne_eqb end t.size (omega arith)) in
-      let end_size : once t.size end ≡ 0 = once_back end t.size size_end in
-      let placed_none : times t.size (end ∷ places items) ≡ 0 = omega arith in
-      let listed_none : times t.size (places items ++ end ∷ []) ≡ 0 =
-      let a = times-append t.size (places items) (end ∷ []) in omega arith in
+      let size_end : once nil t.size ≡ 0 = ap (λ b. if b then 1 else 0) (ne_eqb nil t.size (omega arith)) in
+      let end_size : once t.size nil ≡ 0 = once_back nil t.size size_end in
+      let placed_none : times t.size (nil ∷ places items) ≡ 0 = omega arith in
+      let listed_none : times t.size (places items ++ nil ∷ []) ≡ 0 =
+      let a = times-append t.size (places items) (nil ∷ []) in omega arith in
       record {
-        forward = map_with t.next t.size t.free (end ∷ places items) placed_none ∙ h.forward;
-        backward = map_with t.previous t.size end (places items ++ end ∷ []) listed_none ∙ h.backward;
+        forward = map_with t.next t.size t.free (nil ∷ places items) placed_none ∙ h.forward;
+        backward = map_with t.previous t.size nil (places items ++ nil ∷ []) listed_none ∙ h.backward;
         freed = ap (λ (l : List ℕ). t.size ∷ l)
-            (ap₂ (λ (y : ℕ) (ys : List ℕ). y ∷ ys) (with_same t.next t.size t.free) (map_with t.next t.size t.free frees (omega arith))
+            (ap₂ (λ (y : ℕ) (ys : List ℕ). y ∷ ys) (with_same t.next t.size t.free)
+            (map_with t.next t.size t.free free_places (omega arith))
             ∙ h.freed);
         elements = λ k. elim (cases_Bool (k == t.size)) [
           | inl e ↦ ap (λ b. if b then None else t.element k) e
@@ -145,7 +148,8 @@ module _ {E : Type 0} where
           | inl e ↦ (
               let one = ap (λ x. once t.size x) e in
               let is = once_same t.size in
-              let zero_here : times k (places items) + times k frees ≡ 0 = ap (λ x. times x (places items) + times x frees) (sym e)
+              let zero_here : times k (places items) + times k free_places ≡ 0 = ap (λ x. times x (places items) + times x free_places)
+              (sym e)
               ∙ none in
               omega arith
               )
@@ -164,16 +168,16 @@ module _ {E : Type 0} where
       }
 
   -- a place in the ring isn't free
-  pub ring_apart : (t : Table E) (items : List (ChainItem E)) (frees : List ℕ) (k : ℕ) → HoldsItems t items frees
-      → 1 ≤ times k (end ∷ places items) → times k frees ≡ 0
-  ring_apart t items frees k h some = elim (cases_eq end k) [
+  pub ring_apart : (t : Table E) (items : List (ChainItem E)) (free_places : List ℕ) (k : ℕ) → HoldsItems t items free_places
+      → 1 ≤ times k (nil ∷ places items) → times k free_places ≡ 0
+  ring_apart t items free_places k h some = elim (cases_eq nil k) [
     | inl e ↦ (
-        let none = h.beyond end h.fits in
-        ap (λ x. times x frees) (sym e) ∙ (omega arith)
+        let none = h.beyond nil h.fits in
+        ap (λ x. times x free_places) (sym e) ∙ (omega arith)
         )
     | inr ne ↦ (
-        let zero_end : once end k ≡ 0 = ap (λ b. if b then 1 else 0) (ne_eqb end k ne) in
-        let below = ring_below t items frees k h some (λ e. ne (sym e)) in
+        let zero_end : once nil k ≡ 0 = ap (λ b. if b then 1 else 0) (ne_eqb nil k ne) in
+        let below = ring_below t items free_places k h some (λ e. ne (sym e)) in
         let w = h.within k below in
         omega arith
         )
@@ -181,7 +185,7 @@ module _ {E : Type 0} where
 
   -- with an element put into the free node between others, ahead of the place that is next there
   pub puts : (t : Table E) (xs ys : List (ChainItem E)) (rest : List ℕ) (e : E) (next : ℕ) (later : List ℕ)
-      → HoldsItems t (xs ++ ys) (t.free ∷ rest) → places ys ++ end ∷ [] ≡ next ∷ later
+      → HoldsItems t (xs ++ ys) (t.free ∷ rest) → places ys ++ nil ∷ [] ≡ next ∷ later
       → HoldsItems (filled t next e) (xs ++ item t.free e ∷ ys) rest
   puts t xs ys rest e next later h at =
       let names_old : places (xs ++ ys) ≡ places xs ++ places ys = map-append (λ (x : ChainItem E). x.place) xs ys in
@@ -204,10 +208,10 @@ module _ {E : Type 0} where
       let counted = h.within t.free below in
       let here = once_same t.free in
       let apart = counts_old t.free in
-      let end_none : once end t.free ≡ 0 = let f = h.fits in ap (λ b. if b then 1 else 0) (ne_eqb end t.free (omega arith)) in
-      let fresh : times t.free (end ∷ (places xs ++ places ys)) ≡ 0 =
-      ap (λ (l : List ℕ). times t.free (end ∷ l)) (sym names_old) ∙ (omega arith) in
-      let occupied : 1 ≤ times r.last (end ∷ places (xs ++ ys)) =
+      let end_none : once nil t.free ≡ 0 = let f = h.fits in ap (λ b. if b then 1 else 0) (ne_eqb nil t.free (omega arith)) in
+      let fresh : times t.free (nil ∷ (places xs ++ places ys)) ≡ 0 =
+      ap (λ (l : List ℕ). times t.free (nil ∷ l)) (sym names_old) ∙ (omega arith) in
+      let occupied : 1 ≤ times r.last (nil ∷ places (xs ++ ys)) =
       let s = ap (times r.last) r.ends in
       let a = times-append r.last r.front (r.last ∷ []) in
       let o = once_same r.last in
@@ -224,8 +228,8 @@ module _ {E : Type 0} where
       head_is (sym last_is) put in
       let done : Ring (filled t next e).next (filled t next e).previous (places (xs ++ item t.free e ∷ ys)) =
       subst (Ring (filled t next e).next (filled t next e).previous) (sym names) put_next in
-      let chained : t.free ∷ t.next t.free ∷ map t.next rest ≡ t.free ∷ (rest ++ end ∷ []) = h.freed in
-      let tails : t.next t.free ∷ map t.next rest ≡ rest ++ end ∷ [] = cc in
+      let chained : t.free ∷ t.next t.free ∷ map t.next rest ≡ t.free ∷ (rest ++ nil ∷ []) = h.freed in
+      let tails : t.next t.free ∷ map t.next rest ≡ rest ++ nil ∷ [] = cc in
       record {
         forward = done.forward;
         backward = done.backward;
@@ -247,16 +251,17 @@ module _ {E : Type 0} where
 
   -- with an element put into the free node behind all others
   pub puts_last : (t : Table E) (items : List (ChainItem E)) (rest : List ℕ) (e : E) → HoldsItems t items (t.free ∷ rest)
-      → HoldsItems (filled t end e) (items ++ item t.free e ∷ []) rest
+      → HoldsItems (filled t nil e) (items ++ item t.free e ∷ []) rest
   puts_last t items rest e h =
-      puts t items [] rest e end [] (subst (λ (l : List (ChainItem E)). HoldsItems t l (t.free ∷ rest)) (sym (append-nil items)) h) refl
+      puts t items [] rest e nil [] (subst (λ (l : List (ChainItem E)). HoldsItems t l (t.free ∷ rest)) (sym (append-nil items)) h) refl
 
   -- with the element at a place taken out, and its place free
-  pub takes : (t : Table E) (xs ys : List (ChainItem E)) (c : ℕ) (e : E) (frees : List ℕ) → HoldsItems t (xs ++ item c e ∷ ys) frees
-      → HoldsItems (bypassed (emptied t c) c) (xs ++ ys) (c ∷ frees)
-  takes t xs ys c e frees h =
+  pub takes : (t : Table E) (xs ys : List (ChainItem E)) (c : ℕ) (e : E) (free_places : List ℕ)
+      → HoldsItems t (xs ++ item c e ∷ ys) free_places
+      → HoldsItems (bypassed (emptied t c) c) (xs ++ ys) (c ∷ free_places)
+  takes t xs ys c e free_places h =
       let items : List (ChainItem E) = xs ++ item c e ∷ ys in
-      let ring = ring_of t (xs ++ item c e ∷ ys) frees h in
+      let ring = ring_of t (xs ++ item c e ∷ ys) free_places h in
       let names : places (xs ++ item c e ∷ ys) ≡ places xs ++ c ∷ places ys = map-append (λ (x : ChainItem E). x.place) xs
       (item c e ∷ ys) in
       let names_left : places (xs ++ ys) ≡ places xs ++ places ys = map-append (λ (x : ChainItem E). x.place) xs ys in
@@ -277,17 +282,17 @@ module _ {E : Type 0} where
       omega arith in
       let c_counts = counts c in
       let c_is = once_same c in
-      let c_apart : times c frees ≡ 0 = ring_apart t (xs ++ item c e ∷ ys) frees c h (omega arith) in
+      let c_apart : times c free_places ≡ 0 = ring_apart t (xs ++ item c e ∷ ys) free_places c h (omega arith) in
       let c_ring = ring.apart c in
-      let occupied : 1 ≤ times r.last (end ∷ places (xs ++ item c e ∷ ys)) =
+      let occupied : 1 ≤ times r.last (nil ∷ places (xs ++ item c e ∷ ys)) =
       let s = ap (times r.last) r.ends in
       let a = times-append r.last r.front (r.last ∷ []) in
       let o = once_same r.last in
       let d = times-append r.last (places xs) (c ∷ places ys) in
       let n = ap (times r.last) names in
       omega arith in
-      let last_apart : times (t.previous c) frees ≡ 0 =
-      ap (λ x. times x frees) r.from_back ∙ ring_apart t (xs ++ item c e ∷ ys) frees r.last h occupied in
+      let last_apart : times (t.previous c) free_places ≡ 0 =
+      ap (λ x. times x free_places) r.from_back ∙ ring_apart t (xs ++ item c e ∷ ys) free_places r.last h occupied in
       let ahead_none : times c (places xs) ≡ 0 =
       let d = times-append c (places xs) (places ys) in
       let m = ap (times c) names_left in
@@ -297,8 +302,8 @@ module _ {E : Type 0} where
         backward = done.backward;
         freed = ap (λ (l : List ℕ). c ∷ l)
             (ap₂ (λ (y : ℕ) (zs : List ℕ). y ∷ zs) (with_same (with t.next (t.previous c) (t.next c)) c t.free)
-            (map_with (with t.next (t.previous c) (t.next c)) c t.free frees c_apart
-            ∙ map_with t.next (t.previous c) (t.next c) frees last_apart)
+            (map_with (with t.next (t.previous c) (t.next c)) c t.free free_places c_apart
+            ∙ map_with t.next (t.previous c) (t.next c) free_places last_apart)
             ∙ h.freed);
         elements = λ k.
             ap (λ o. if k == c then None else o) (h.elements k ∙ found_put xs ys c e k ahead_none)

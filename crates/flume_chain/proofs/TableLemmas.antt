@@ -2,7 +2,7 @@
 use Rattle.std.proofs.Common.{◌≡◌, ◌≢◌, ℕ, suc, ◌≤◌, ◌==◌, List, [], ◌∷◌, ◌++◌, false, Option, Some, None}
 use Rattle.std.proofs.Common.{map, length, refl, sym, ap, ap₂, ◌∙◌, inl, inr, arith, if◌then◌else◌, eq-eqb}
 use Rattle.std.proofs.lemmas.Bool.{cases_Bool, cases_lt, eqb-true}
-use Rattle.flume_chain.specs.Links.{end, with}
+use Rattle.flume_chain.specs.Links.{nil, with}
 use Rattle.flume_chain.specs.ChainState.{once, times, ChainItem, Table, HoldsItems, places, found}
 use Rattle.flume_chain.specs.ChainState.{without_place, put_before, first_place, place_after, listed, walk}
 use Rattle.flume_chain.proofs.RingLemmas.{Ring, once_same, once_none, once_back, once_more, with_same, with_other, map_with}
@@ -126,38 +126,38 @@ module _ {E : Type 0} where
   walk_in t k n = walk t.next t.element k n
 
   -- the walk from behind a place on is the elements behind it
-  pub walk_from : (t : Table E) (xs : List (ChainItem E)) (p : ℕ) → map t.next (p ∷ places xs) ≡ places xs ++ end ∷ []
+  pub walk_from : (t : Table E) (xs : List (ChainItem E)) (p : ℕ) → map t.next (p ∷ places xs) ≡ places xs ++ nil ∷ []
       → map t.element (places xs) ≡ map (λ (x : ChainItem E). Some x.element) xs → walk_in t (t.next p) (length xs) ≡ xs
   walk_from t [] p f h = refl
   walk_from t (x ∷ xs) p f h =
       let next : t.next p ≡ x.place = cc in
       let value : t.element x.place ≡ Some x.element = cc in
-      let tails : map t.next (x.place ∷ places xs) ≡ places xs ++ end ∷ [] = cc in
+      let tails : map t.next (x.place ∷ places xs) ≡ places xs ++ nil ∷ [] = cc in
       let values : map t.element (places xs) ≡ map (λ (y : ChainItem E). Some y.element) xs = cc in
       ap (λ q. walk_in t q (suc (length xs))) next
       ∙ ap (λ o. listed x.place o (walk_in t (t.next x.place) (length xs))) value
       ∙ ap (λ (l : List (ChainItem E)). x ∷ l) (walk_from t xs x.place tails values)
 
   -- the elements and the places of a table are in a ring
-  pub ring_of : (t : Table E) (items : List (ChainItem E)) (frees : List ℕ) → HoldsItems t items frees
+  pub ring_of : (t : Table E) (items : List (ChainItem E)) (free_places : List ℕ) → HoldsItems t items free_places
       → Ring t.next t.previous (places items)
-  ring_of t items frees h = record {
+  ring_of t items free_places h = record {
     forward = h.forward;
     backward = h.backward;
     apart = λ k.
-        let at_end = h.beyond end h.fits in
-        once_more (λ x. times x (places items)) end k (omega arith) (elim (cases_lt k t.size) [
+        let at_end = h.beyond nil h.fits in
+        once_more (λ x. times x (places items)) nil k (omega arith) (elim (cases_lt k t.size) [
           | inl lt ↦ (let w = h.within k lt in omega arith)
           | inr ge ↦ (let w = h.beyond k ge in omega arith)
         ]);
   }
 
   -- the walk through the links of a table is its elements
-  pub walk_is : (t : Table E) (items : List (ChainItem E)) (frees : List ℕ) → HoldsItems t items frees
-      → walk_in t (t.next end) (length items) ≡ items
-  walk_is t items frees h =
-      let r = ring_of t items frees h in
-      walk_from t items end h.forward
+  pub walk_is : (t : Table E) (items : List (ChainItem E)) (free_places : List ℕ) → HoldsItems t items free_places
+      → walk_in t (t.next nil) (length items) ≡ items
+  walk_is t items free_places h =
+      let r = ring_of t items free_places h in
+      walk_from t items nil h.forward
       (map_same t.element (found items) h.elements (places items) ∙ found_each items (λ k. let a = r.apart k in omega arith))
 
   -- if no element is found, none is behind it
@@ -181,17 +181,17 @@ module _ {E : Type 0} where
       (once_none c x.place (once_back x.place c (omega arith)))
       ∙ after_at xs ys c e (omega arith)
 
-  -- the head of some places and `end` is the first of them, or `end`
+  -- the head of some places and `nil` is the first of them, or `nil`
   pub record Heads (head : ℕ) (ys : List (ChainItem E)) : Type 0 where
-    pub none : head ≡ end → None ≡ first_place ys
-    pub some : head ≢ end → Some head ≡ first_place ys
+    pub none : head ≡ nil → None ≡ first_place ys
+    pub some : head ≢ nil → Some head ≡ first_place ys
 
-  pub heads : (head : ℕ) (rest : List ℕ) (ys : List (ChainItem E)) → times end (places ys) ≡ 0 → places ys ++ end ∷ [] ≡ head ∷ rest
+  pub heads : (head : ℕ) (rest : List ℕ) (ys : List (ChainItem E)) → times nil (places ys) ≡ 0 → places ys ++ nil ∷ [] ≡ head ∷ rest
       → Heads head ys
   heads head rest [] h e = record { none = λ _. refl; some = λ ne. absurd (ne cc) }
   heads head rest (y ∷ ys) h e =
       let name : y.place ≡ head = cc in
       record {
-        none = λ is. absurd (let same = once_same end in let at = ap (λ k. once k end) (name ∙ is) in omega arith);
+        none = λ is. absurd (let same = once_same nil in let at = ap (λ k. once k nil) (name ∙ is) in omega arith);
         some = λ ne. ap Some (sym name);
       }

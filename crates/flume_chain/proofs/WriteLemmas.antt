@@ -9,8 +9,8 @@ use Rattle.flume_chain.specs.declared.chain.node.Node.{Node}
 use Rattle.flume_chain.specs.declared.chain.node.Node.TheVariants.{Free, Occupied}
 use Rattle.flume_chain.specs.declared.chain.links.Links.{Links}
 use Rattle.flume_chain.specs.declared.labelled.LabelledValue.{LabelledValue}
-use Rattle.flume_chain.specs.Links.{end, no_node, with, node_at, next_of, previous_of, element_of}
-use Rattle.flume_chain.specs.Links.{with_value_of, links_with_value, with_new_value, next_at, previous_at}
+use Rattle.flume_chain.specs.Links.{nil, no_node, with, node_at, next_of, previous_of, element_of}
+use Rattle.flume_chain.specs.Links.{node_with_value, links_with_value, with_new_value, next_at, previous_at}
 use Rattle.flume_chain.specs.Links.{element_at, Linked}
 use Rattle.flume_chain.specs.ChainState.{times, ChainItem, ChainState, Table, HoldsItems, IsChain, places, found, table_of, chain_of}
 use Rattle.flume_chain.specs.ChangedAt.{changed_at}
@@ -83,36 +83,36 @@ module _ {E : Type 0} (f : E → E) where
   }
 
   -- it holds the elements with f of that at the place
-  pub writes : (t : Table E) (items : List (ChainItem E)) (frees : List ℕ) (k : ℕ) → HoldsItems t items frees
-      → HoldsItems (written t k) (changed_at f k items) frees
-  writes t items frees k h =
+  pub writes : (t : Table E) (items : List (ChainItem E)) (free_places : List ℕ) (k : ℕ) → HoldsItems t items free_places
+      → HoldsItems (written t k) (changed_at f k items) free_places
+  writes t items free_places k h =
       let names = places-changed_at items k in
       let count = length-changed_at items k in
       record {
-        forward = subst (λ (l : List ℕ). map t.next (end ∷ l) ≡ l ++ end ∷ []) (sym names) h.forward;
-        backward = subst (λ (l : List ℕ). map t.previous (l ++ end ∷ []) ≡ end ∷ l) (sym names) h.backward;
+        forward = subst (λ (l : List ℕ). map t.next (nil ∷ l) ≡ l ++ nil ∷ []) (sym names) h.forward;
+        backward = subst (λ (l : List ℕ). map t.previous (l ++ nil ∷ []) ≡ nil ∷ l) (sym names) h.backward;
         freed = h.freed;
         elements = λ j.
             ap (λ o. if j == k then option_map f o else t.element j) (h.elements k)
             ∙ ap (λ o. if j == k then option_map f (found items k) else o) (h.elements j)
             ∙ sym (found-changed_at items k j);
-        within = λ j l. ap (λ (p : List ℕ). times j p + times j frees) names ∙ h.within j l;
-        beyond = λ j l. ap (λ (p : List ℕ). times j p + times j frees) names ∙ h.beyond j l;
+        within = λ j l. ap (λ (p : List ℕ). times j p + times j free_places) names ∙ h.within j l;
+        beyond = λ j l. ap (λ (p : List ℕ). times j p + times j free_places) names ∙ h.beyond j l;
         total = let n = h.total in omega arith;
         fits = h.fits;
       }
 
 module _ {L E : Type 0} (v : E) where
   -- with another value a node has the same places next to it, and the element with this value
-  next_left : (x : Node L E) → next_of (with_value_of x v) ≡ next_of x
+  next_left : (x : Node L E) → next_of (node_with_value x v) ≡ next_of x
   next_left (Free p n) = refl
   next_left (Occupied p n l w) = refl
 
-  previous_left : (x : Node L E) → previous_of (with_value_of x v) ≡ previous_of x
+  previous_left : (x : Node L E) → previous_of (node_with_value x v) ≡ previous_of x
   previous_left (Free p n) = refl
   previous_left (Occupied p n l w) = refl
 
-  element_left : (x : Node L E) → element_of (with_value_of x v) ≡ option_map (with_new_value v) (element_of x)
+  element_left : (x : Node L E) → element_of (node_with_value x v) ≡ option_map (with_new_value v) (element_of x)
   element_left (Free p n) = refl
   element_left (Occupied p n l w) = refl
 
@@ -129,19 +129,19 @@ module _ {L E Z : Type 0} where
 
   -- what is seen of each node once a value was written into one
   seen : {X : Type 0} (s : Links L E Z) (k j : ℕ) (v : E) (f : Node L E → X) → k < vec_len s.nodes
-      → f (node_at (links_with_value s k v) j) ≡ with (λ i. f (node_at s i)) k (f (with_value_of (node_at s k) v)) j
+      → f (node_at (links_with_value s k v) j) ≡ with (λ i. f (node_at s i)) k (f (node_with_value (node_at s k) v)) j
   seen s k j v f lt = elim (cases_Bool (j == k)) [
     | inl t ↦ ap (λ i. f (node_at (links_with_value s k v) i)) (eqb-true j k t)
-        ∙ ap f (get_or-set_same s.nodes.items k (with_value_of (node_at s k) v) no_node (omega (arith, s.nodes.ok.0)))
-        ∙ sym (ap (λ b. if b then f (with_value_of (node_at s k) v) else f (node_at s j)) t)
-    | inr t ↦ ap f (get_or-set_other s.nodes.items k j (with_value_of (node_at s k) v) no_node (eqb-false j k t))
-        ∙ sym (ap (λ b. if b then f (with_value_of (node_at s k) v) else f (node_at s j)) t)
+        ∙ ap f (get_or-set_same s.nodes.items k (node_with_value (node_at s k) v) no_node (omega (arith, s.nodes.ok.0)))
+        ∙ sym (ap (λ b. if b then f (node_with_value (node_at s k) v) else f (node_at s j)) t)
+    | inr t ↦ ap f (get_or-set_other s.nodes.items k j (node_with_value (node_at s k) v) no_node (eqb-false j k t))
+        ∙ sym (ap (λ b. if b then f (node_with_value (node_at s k) v) else f (node_at s j)) t)
   ]
 
   -- what the writing of a value leaves as it was
   left : {X : Type 0} (s : Links L E Z) (k j : ℕ) (v : E) (f : Node L E → X) → k < vec_len s.nodes
-      → f (with_value_of (node_at s k) v) ≡ f (node_at s k) → f (node_at (links_with_value s k v) j) ≡ f (node_at s j)
-  left s k j v f lt same = seen s k j v f lt ∙ with_self (λ i. f (node_at s i)) k (f (with_value_of (node_at s k) v)) j (sym same)
+      → f (node_with_value (node_at s k) v) ≡ f (node_at s k) → f (node_at (links_with_value s k v) j) ≡ f (node_at s j)
+  left s k j v f lt same = seen s k j v f lt ∙ with_self (λ i. f (node_at s i)) k (f (node_with_value (node_at s k) v)) j (sym same)
 
   -- links with a value written into a node
   pub value_written : (s : Links L E Z) (k : ℕ) (v : E) → k < vec_len s.nodes
@@ -150,10 +150,10 @@ module _ {L E Z : Type 0} where
   value_written s k v lt = record {
     size = refl;
     capacity = refl;
-    nexts = λ j. ap (λ p. if j == end then s.first else p) (left s k j v next_of lt (next_left v (node_at s k)));
-    previouses = λ j. ap (λ p. if j == end then s.last else p) (left s k j v previous_of lt (previous_left v (node_at s k)));
+    nexts = λ j. ap (λ p. if j == nil then s.first else p) (left s k j v next_of lt (next_left v (node_at s k)));
+    previouses = λ j. ap (λ p. if j == nil then s.last else p) (left s k j v previous_of lt (previous_left v (node_at s k)));
     elements = λ j. seen s k j v element_of lt ∙ ap (λ o. with (element_at s) k o j) (element_left v (node_at s k));
-    frees = refl;
+    first_free = refl;
   }
 
 -- links with f of the element at a place
@@ -163,9 +163,9 @@ module _ {L E Z : Type 0} (f : LabelledValue L E → LabelledValue L E) (old new
   pub edited_kept : IsChain new n
   edited_kept = record {
     items = changed_at f c k.items;
-    frees = k.frees;
-    holds = subst (λ t. HoldsItems t (changed_at f c k.items) k.frees) (sym (linked_table old new _ _ _ _ is))
-        (writes f (table_of old) k.items k.frees c k.holds);
+    free_places = k.free_places;
+    holds = subst (λ t. HoldsItems t (changed_at f c k.items) k.free_places) (sym (linked_table old new _ _ _ _ is))
+        (writes f (table_of old) k.items k.free_places c k.holds);
     count = k.count ∙ sym (length-changed_at f k.items c);
   }
 
@@ -174,7 +174,7 @@ module _ {L E Z : Type 0} (f : LabelledValue L E → LabelledValue L E) (old new
   unfolding edited_kept
   edited_items v view =
       let m = edited_kept in
-      walked new n m.items m.frees m.holds m.count ∙ ap (changed_at f c) (kept_items old n v k view)
+      walked new n m.items m.free_places m.holds m.count ∙ ap (changed_at f c) (kept_items old n v k view)
 
 -- links with a value written where there was one
 module _ {L E Z : Type 0} (s : Links L E Z) (n c : ℕ) (w : E) (k : IsChain s n) (some : IsSome (element_at s c)) where

@@ -4,7 +4,7 @@ use Rattle.std.specs.Prelude.{Option, Some, None, if◌then◌else◌, map, leng
 use Rattle.std.specs.Vec.{vec_len, vec_capacity}
 use Rattle.flume_chain.specs.declared.chain.links.Links.{Links}
 use Rattle.flume_chain.specs.declared.labelled.LabelledValue.{LabelledValue}
-use Rattle.flume_chain.specs.Links.{end, next_at, previous_at, element_at}
+use Rattle.flume_chain.specs.Links.{nil, next_at, previous_at, element_at}
 
 -- an element, with the place that names it while it is in the list
 pub record ChainItem (E : Type 0) : Type 0 where
@@ -92,16 +92,17 @@ module _ {E : Type 0} where
   walk next element k zero = []
   walk next element k (suc n) = listed k (element k) (walk next element (next k) n)
 
-  -- the table is of these elements and these free places, both closed into rings by `end`
-  pub record HoldsItems (t : Table E) (items : List (ChainItem E)) (frees : List ℕ) : Type 0 where
-    pub forward : map t.next (end ∷ places items) ≡ places items ++ end ∷ []
-    pub backward : map t.previous (places items ++ end ∷ []) ≡ end ∷ places items
-    pub freed : t.free ∷ map t.next frees ≡ frees ++ end ∷ []
+  -- the table is of these elements and these free places, both closed into rings by `nil`
+  pub record HoldsItems (t : Table E) (items : List (ChainItem E)) (free_places : List ℕ)
+      : Type 0 where
+    pub forward : map t.next (nil ∷ places items) ≡ places items ++ nil ∷ []
+    pub backward : map t.previous (places items ++ nil ∷ []) ≡ nil ∷ places items
+    pub freed : t.free ∷ map t.next free_places ≡ free_places ++ nil ∷ []
     pub elements : (k : ℕ) → t.element k ≡ found items k
-    pub within : (k : ℕ) → k < t.size → times k (places items) + times k frees ≡ 1
-    pub beyond : (k : ℕ) → t.size ≤ k → times k (places items) + times k frees ≡ 0
-    pub total : length items + length frees ≡ t.size
-    pub fits : t.size ≤ end
+    pub within : (k : ℕ) → k < t.size → times k (places items) + times k free_places ≡ 1
+    pub beyond : (k : ℕ) → t.size ≤ k → times k (places items) + times k free_places ≡ 0
+    pub total : length items + length free_places ≡ t.size
+    pub fits : t.size ≤ nil
 
 module _ {L E Z : Type 0} where
   -- what these links say
@@ -116,7 +117,7 @@ module _ {L E Z : Type 0} where
 
   -- how many more elements fit into these links, which have n
   abbrev pub room_of : Links L E Z → ℕ → ℕ
-  room_of s n = min (vec_capacity s.nodes) end - n
+  room_of s n = min (vec_capacity s.nodes) nil - n
 
   -- the chain of n elements in these links
   abbrev pub chain_of : Links L E Z → ℕ → ChainState (LabelledValue L E)
@@ -125,6 +126,6 @@ module _ {L E Z : Type 0} where
   -- these links are of n elements and of the free places
   pub record IsChain (s : Links L E Z) (n : ℕ) : Type 0 where
     pub items : List (ChainItem (LabelledValue L E))
-    pub frees : List ℕ
-    pub holds : HoldsItems (table_of s) items frees
+    pub free_places : List ℕ
+    pub holds : HoldsItems (table_of s) items free_places
     pub count : n ≡ length items

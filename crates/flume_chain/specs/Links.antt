@@ -8,8 +8,8 @@ use Rattle.flume_chain.specs.declared.labelled.LabelledValue.{LabelledValue}
 use Rattle.flume_chain.specs.declared.chain.links.Links.{Links}
 
 -- the place that no element has: it is before the first and after the last
-abbrev pub end : ℕ
-end = 4294967295
+abbrev pub nil : ℕ
+nil = 4294967295
 
 -- f, but v at k
 abbrev pub with : {X : Type 0} → (ℕ → X) → ℕ → X → ℕ → X
@@ -18,7 +18,7 @@ with f k v x = if x == k then v else f x
 module _ {L E : Type 0} where
   -- what is read if there is no node
   abbrev pub no_node : Node L E
-  no_node = Free end end
+  no_node = Free nil nil
 
   -- the place after a node
   abbrev pub next_of : Node L E → ℕ
@@ -44,22 +44,22 @@ module _ {L E : Type 0} where
   with_new_value v e = record e { value = v }
 
   -- a node with this value, if it has one
-  abbrev pub with_value_of : Node L E → E → Node L E
-  with_value_of (Free previous next) v = Free previous next
-  with_value_of (Occupied previous next label value) v = Occupied previous next label v
+  abbrev pub node_with_value : Node L E → E → Node L E
+  node_with_value (Free previous next) v = Free previous next
+  node_with_value (Occupied previous next label value) v = Occupied previous next label v
 
 module _ {L E Z : Type 0} where
   -- the node at a place
   abbrev pub node_at : Links L E Z → ℕ → Node L E
   node_at s k = slice_index_or s.nodes.items k no_node
 
-  -- the place after a place; after `end` the first
+  -- the place after a place; after `nil` the first
   abbrev pub next_at : Links L E Z → ℕ → ℕ
-  next_at s k = if k == end then s.first else next_of (node_at s k)
+  next_at s k = if k == nil then s.first else next_of (node_at s k)
 
-  -- the place before a place; before `end` the last
+  -- the place before a place; before `nil` the last
   abbrev pub previous_at : Links L E Z → ℕ → ℕ
-  previous_at s k = if k == end then s.last else previous_of (node_at s k)
+  previous_at s k = if k == nil then s.last else previous_of (node_at s k)
 
   -- the element at a place
   abbrev pub element_at : Links L E Z → ℕ → Option (LabelledValue L E)
@@ -67,11 +67,12 @@ module _ {L E Z : Type 0} where
 
   -- s with a value in the node at a place
   abbrev pub links_with_value : Links L E Z → ℕ → E → Links L E Z
-  links_with_value s k v = record s { nodes = with_item s.nodes k (with_value_of (node_at s k) v) }
+  links_with_value s k v =
+      record s { nodes = with_item s.nodes k (node_with_value (node_at s k) v) }
 
-  -- a node has this place, or it is `end`
+  -- a node has this place, or it is `nil`
   abbrev pub HasNode : Links L E Z → ℕ → Type 0
-  HasNode s k = k ≢ end → k < vec_len s.nodes
+  HasNode s k = k ≢ nil → k < vec_len s.nodes
 
   -- new has the size and the capacity of old, and at each place what these say
   pub record Linked (old new : Links L E Z) (next previous : ℕ → ℕ)
@@ -81,7 +82,7 @@ module _ {L E Z : Type 0} where
     pub nexts : (k : ℕ) → next_at new k ≡ next k
     pub previouses : (k : ℕ) → previous_at new k ≡ previous k
     pub elements : (k : ℕ) → element_at new k ≡ element k
-    pub frees : new.free ≡ free
+    pub first_free : new.free ≡ free
 
   -- new is as old was
   abbrev pub Same : Links L E Z → Links L E Z → Type 0
@@ -92,16 +93,16 @@ module _ {L E Z : Type 0} where
     pub at : place ≡ old.free
     pub size : vec_len new.nodes ≡ vec_len old.nodes
     pub capacity : vec_capacity new.nodes ≡ vec_capacity old.nodes
-    pub frees : new.free ≡ next_at old old.free
+    pub first_free : new.free ≡ next_at old old.free
 
   -- the place is that of one more node, and none is free in new
   pub record Made (old new : Links L E Z) (place : ℕ) : Type 0 where
     pub at : place ≡ vec_len old.nodes
-    pub below : vec_len old.nodes < end
+    pub below : vec_len old.nodes < nil
     pub size : vec_len new.nodes ≡ suc (vec_len old.nodes)
     pub capacity : vec_len old.nodes < vec_capacity old.nodes
         → vec_capacity new.nodes ≡ vec_capacity old.nodes
-    pub frees : new.free ≡ end
+    pub first_free : new.free ≡ nil
 
   -- new has the place, which in old was free or of no node, and at each place what these say
   pub record Put (old new : Links L E Z) (place : ℕ) (next previous : ℕ → ℕ)
@@ -109,10 +110,10 @@ module _ {L E Z : Type 0} where
     pub nexts : (k : ℕ) → next_at new k ≡ next k
     pub previouses : (k : ℕ) → previous_at new k ≡ previous k
     pub elements : (k : ℕ) → element_at new k ≡ element k
-    pub reused : old.free ≢ end → Reused old new place
-    pub made : old.free ≡ end → Made old new place
+    pub reused : old.free ≢ nil → Reused old new place
+    pub made : old.free ≡ nil → Made old new place
 
   -- no node is free, and none is made with no more memory
   pub record Full (s : Links L E Z) : Type 0 where
-    pub frees : s.free ≡ end
-    pub size : vec_len s.nodes < vec_capacity s.nodes → end ≤ vec_len s.nodes
+    pub first_free : s.free ≡ nil
+    pub size : vec_len s.nodes < vec_capacity s.nodes → nil ≤ vec_len s.nodes

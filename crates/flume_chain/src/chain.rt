@@ -13,7 +13,7 @@ mod links;
 mod node;
 
 use crate::labelled::LabelledValue;
-use links::{END, Links};
+use links::{Links, NIL};
 use std::alloc::Allocator;
 use std::marker::Model;
 
@@ -80,10 +80,10 @@ impl<L: Drop, E: Drop, A: Allocator> Chain<L, E, A> {
         ensures room { result ≡ self.now.room }
     {
         let most = self.links.capacity();
-        if most < END as usize {
+        if most < NIL as usize {
             most - self.len
         } else {
-            END as usize - self.len
+            NIL as usize - self.len
         }
     }
 
@@ -154,7 +154,7 @@ impl<L: Drop, E: Drop, A: Allocator> Chain<L, E, A> {
             return None;
         };
         let next = self.links.next(place);
-        if next == END {
+        if next == NIL {
             return None;
         }
         Some(next)
@@ -173,7 +173,7 @@ impl<L: Drop, E: Drop, A: Allocator> Chain<L, E, A> {
         ensures returned { IfErr result (λ back. back ≡ element) }
         ensures unchanged { OnErr result (self.new ≡ self.old) }
     {
-        let place = self.links.link_before(END, element)?;
+        let place = self.links.link_before(NIL, element)?;
         self.len += 1;
         Ok(place)
     }

@@ -1,7 +1,7 @@
 -- What is so of a call that began since a moment of a run: a message that it may return was handed out since.
 use Rattle.flume_model.proofs.Common.{◌≡◌, ℕ, ◌≤◌, Bool, true, false, if◌then◌else◌, ◌∷◌, Option, Some, None}
 use Rattle.flume_model.proofs.Common.{refl, subst, arith, inl, inr}
-use Rattle.flume_model.proofs.Common.{Log, Opening, Channel, channel, entry_of, IsPolled, IsGone, IsReply, IsRun}
+use Rattle.flume_model.proofs.Common.{Log, Opening, Channel, channel, entry_of, IsPollReply, IsWithdrawReply, IsReply, IsRun}
 use Rattle.flume_model.specs.declared.step.Step.{Step}
 use Rattle.flume_model.specs.declared.step.Step.TheVariants.{Send, PollSend, Recv, Poll, Withdraw}
 use Rattle.flume_model.specs.declared.step.Reply.{Reply}
@@ -46,7 +46,7 @@ module _ {T A : Type 0} where
   issues_none _ = true
 
   -- a reply to a parked receiver that asks issues none
-  polled_issues_none : (c : Channel T) (t : ℕ) (r : Reply T A) → IsPolled c (entry_of t c.entries) r → issues_none r ≡ true
+  polled_issues_none : (c : Channel T) (t : ℕ) (r : Reply T A) → IsPollReply c (entry_of t c.entries) r → issues_none r ≡ true
   polled_issues_none c t r h =
       polled_cases c t (λ x. issues_none x ≡ true) r h (record {
         unknown = refl;
@@ -58,7 +58,7 @@ module _ {T A : Type 0} where
       })
 
   -- nor does one to a parked receiver that leaves
-  gone_issues_none : (c : Channel T) (t : ℕ) (r : Reply T A) → IsGone c t (entry_of t c.entries) r → issues_none r ≡ true
+  gone_issues_none : (c : Channel T) (t : ℕ) (r : Reply T A) → IsWithdrawReply c t (entry_of t c.entries) r → issues_none r ≡ true
   gone_issues_none c t r h =
       gone_cases c t (λ x. issues_none x ≡ true) r h (record {
         unknown = refl;
@@ -70,14 +70,14 @@ module _ {T A : Type 0} where
 
 module _ {T : Type 0} (A : Type 0) where
   -- the ticket of a send that is blocked is the next one
-  pending_next : (c : Channel T) (step : Step T) (t : ℕ) → IsReply {A = A} c step (reply.Pending t) → t ≡ c.next
+  pending_next : (c : Channel T) (step : Step T) (t : ℕ) → IsReply {A = A} c step (reply.Pending t) → t ≡ c.next_ticket
   pending_next c (Send m) t h = h.2
   pending_next c (Poll u) t h = let some = polled_issues_none c u (reply.Pending t) h in absurd (let none : ⊥ = cc in none)
   pending_next c (Withdraw u) t h = let some = gone_issues_none c u (reply.Pending t) h in absurd (let none : ⊥ = cc in none)
   pending_next c _ t h = absurd h
 
   -- the ticket of a receiver that parks is the next one
-  parked_next : (c : Channel T) (step : Step T) (t : ℕ) → IsReply {A = A} c step (reply.Parked t) → t ≡ c.next
+  parked_next : (c : Channel T) (step : Step T) (t : ℕ) → IsReply {A = A} c step (reply.Parked t) → t ≡ c.next_ticket
   parked_next c (Recv kind) t h = h.3
   parked_next c (Poll u) t h = let some = polled_issues_none c u (reply.Parked t) h in absurd (let none : ⊥ = cc in none)
   parked_next c (Withdraw u) t h = let some = gone_issues_none c u (reply.Parked t) h in absurd (let none : ⊥ = cc in none)

@@ -3,9 +3,10 @@ use Rattle.flume_model.proofs.Common.{◌≡◌, ℕ, ◌+◌, Bool, true, false
 use Rattle.flume_model.proofs.Common.{List, [], ◌∷◌, ◌++◌, Option, Some, None}
 use Rattle.flume_model.proofs.Common.{refl, sym, ap, ◌∙◌, subst, arith, common_steps, cond-false, append-nil}
 use Rattle.flume_model.proofs.Common.{Log, Opening, channel, Channel}
-use Rattle.flume_model.proofs.Common.{senders, receivers, is_over, boundary, is_live, entries, entry_of}
+use Rattle.flume_model.proofs.Common.{senders, receivers, is_over, queue_len, is_live, entries, entry_of}
 use Rattle.flume_model.proofs.Common.{again, without_ticket, waiting_count}
-use Rattle.flume_model.proofs.Common.{is_woken, IsOpen, LogEntry, IsPolled, IsGone, IsGoneMark, IsReply, is_waiting, offers, handed_out}
+use Rattle.flume_model.proofs.Common.{is_woken, IsOpen, LogEntry, IsPollReply, IsWithdrawReply, IsWithdrawReplyByMark}
+use Rattle.flume_model.proofs.Common.{IsReply, is_waiting, offers, handed_out}
 use Rattle.flume_model.specs.declared.step.Kind.{Kind}
 use Rattle.flume_model.specs.declared.step.Kind.TheVariants.{Block}
 use Rattle.flume_model.specs.declared.step.Step.{Step}
@@ -64,14 +65,14 @@ module _ {T : Type 0} where
 
 module _ {T : Type 0} (A : Type 0) where
   -- a call that leaves isn't answered `Waiting`
-  gone_marked : (c : Channel T) (t : ℕ) (k : Kind) (m : Mark T) → IsGoneMark {A = A} c t k m Waiting → ⊥
+  gone_marked : (c : Channel T) (t : ℕ) (k : Kind) (m : Mark T) → IsWithdrawReplyByMark {A = A} c t k m Waiting → ⊥
   gone_marked c t k (Filled held) h = h
   gone_marked c t Block StillWaits h = h
   gone_marked c t Block Woken h = h
   gone_marked c t _ StillWaits h = h
   gone_marked c t _ Woken h = h
 
-  gone_waits : (c : Channel T) (t : ℕ) (found : Option (LogEntry T)) → IsGone {A = A} c t found Waiting → ⊥
+  gone_waits : (c : Channel T) (t : ℕ) (found : Option (LogEntry T)) → IsWithdrawReply {A = A} c t found Waiting → ⊥
   gone_waits c t None h = h
   gone_waits c t (Some e) h = gone_marked c t e.kind e.mark h
 
@@ -89,14 +90,14 @@ module _ {T A : Type 0} where
   over_empty o (p ∷ past) over = rw over refl
 
   -- nobody is answered `Waiting` once the channel is over
-  asked_not_over : (o : Opening) (past : Log T A) (t : ℕ) → IsPolled {A = A} (channel o past) (entry_of t (entries o past)) Waiting
+  asked_not_over : (o : Opening) (past : Log T A) (t : ℕ) → IsPollReply {A = A} (channel o past) (entry_of t (entries o past)) Waiting
       → is_over past ≡ false
   asked_not_over o past t h = by_case (is_over past) refl
     where
       by_case : (b : Bool) → is_over past ≡ b → b ≡ false
       by_case false e = refl
       by_case true e = absurd
-          (subst (λ es. IsPolled {A = A} (channel o past) (entry_of t es) Waiting) (over_empty o past e) h)
+          (subst (λ es. IsPollReply {A = A} (channel o past) (entry_of t es) Waiting) (over_empty o past e) h)
 
   -- if no more wait by it, the log with a step that is answered `Waiting` is like the log without
   -- it
@@ -115,7 +116,7 @@ module _ {T A : Type 0} where
         handed_are = append-nil (handed_out past);
         filled_are = refl;
         capacity_is = refl;
-        boundary_is = cond-false (is_over past) 0 (boundary o past) on;
+        queue_len_is = cond-false (is_over past) 0 (queue_len o past) on;
         entries_are = entries_ ∙ again_same t (entries o past) (sym (ap waiting_count entries_) ∙ same);
         live_are = λ i u. stays_live (is_over past) (is_live past u) on i;
         next_is = omega arith;
@@ -130,7 +131,7 @@ module _ {T A : Type 0} where
         handed_are = append-nil (handed_out past);
         filled_are = refl;
         capacity_is = refl;
-        boundary_is = cond-false (is_over past) 0 (boundary o past) on;
+        queue_len_is = cond-false (is_over past) 0 (queue_len o past) on;
         entries_are = cond-false (is_over past) [] (entries o past) on;
         live_are = λ i u. stays_live (is_over past) (is_live past u) on i;
         next_is = omega arith;

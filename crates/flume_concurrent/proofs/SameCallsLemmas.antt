@@ -4,7 +4,7 @@ use Rattle.flume_model.proofs.Common.{◌∙◌, drop, take, length, filter, Log
 use Rattle.flume_model.proofs.Common.{senders, receivers, senders_after, receivers_after, is_over, offers}
 use Rattle.flume_model.proofs.Common.{offers_made, withdrawn, withdraws}
 use Rattle.flume_model.proofs.Common.{hands_out, handed_out, was_filled, is_ticket, filled_by, capacity}
-use Rattle.flume_model.proofs.Common.{capacity_after, boundary, boundary_after}
+use Rattle.flume_model.proofs.Common.{capacity_after, queue_len, queue_len_after}
 use Rattle.flume_model.proofs.Common.{line, messages, next_ticket, tickets_issued, issues, spends, is_live, is_closed, entries}
 use Rattle.flume_model.proofs.Common.{entries_after, change, Takes, Collects, Some}
 use Rattle.flume_model.specs.declared.step.Step.{Step}
@@ -27,7 +27,7 @@ module _ {T A : Type 0} where
     pub handed_are : handed_out log ≡ handed_out no_idle
     pub filled_are : was_filled log ≡ was_filled no_idle
     pub capacity_is : capacity o log ≡ capacity o no_idle
-    pub boundary_is : boundary o log ≡ boundary o no_idle
+    pub queue_len_is : queue_len o log ≡ queue_len o no_idle
     pub entries_are : entries o log ≡ entries o no_idle
     pub live_are : is_live log ≡ is_live no_idle
     pub next_is : next_ticket o log ≡ next_ticket o no_idle
@@ -42,7 +42,7 @@ module _ {T A : Type 0} where
     handed_are = refl;
     filled_are = refl;
     capacity_is = refl;
-    boundary_is = refl;
+    queue_len_is = refl;
     entries_are = refl;
     live_are = refl;
     next_is = refl;
@@ -58,7 +58,7 @@ module _ {T A : Type 0} where
     handed_are = h.handed_are ∙ k.handed_are;
     filled_are = h.filled_are ∙ k.filled_are;
     capacity_is = h.capacity_is ∙ k.capacity_is;
-    boundary_is = h.boundary_is ∙ k.boundary_is;
+    queue_len_is = h.queue_len_is ∙ k.queue_len_is;
     entries_are = h.entries_are ∙ k.entries_are;
     live_are = h.live_are ∙ k.live_are;
     next_is = h.next_is ∙ k.next_is;
@@ -76,12 +76,12 @@ module _ {T A : Type 0} where
       λ i. record {
         capacity = h.capacity_is i;
         line = messages (same i);
-        boundary = h.boundary_is i;
-        queue = messages (take (h.boundary_is i) (same i));
-        blocked = drop (h.boundary_is i) (same i);
+        queue_len = h.queue_len_is i;
+        queue = messages (take (h.queue_len_is i) (same i));
+        blocked = drop (h.queue_len_is i) (same i);
         entries = h.entries_are i;
         is_live = h.live_are i;
-        next = h.next_is i;
+        next_ticket = h.next_is i;
         senders = h.senders_are i;
         receivers = h.receivers_are i;
       }
@@ -114,10 +114,10 @@ module _ {T A : Type 0} where
         handed_are = out;
         filled_are = λ i t. is_ticket t (filled_by p.1) || h.filled_are i t;
         capacity_is = cap;
-        boundary_is = λ i. if over i then 0 else boundary_after (cap i) (length (line_ i)) (h.boundary_is i) (e i);
+        queue_len_is = λ i. if over i then 0 else queue_len_after (cap i) (length (line_ i)) (h.queue_len_is i) (e i);
         entries_are = λ i.
             if over i then []
-            else entries_after (messages (take (h.boundary_is i) (before i)))
+            else entries_after (messages (take (h.queue_len_is i) (before i)))
             (not (is_closed (h.senders_are i) (h.receivers_are i)) && is_closed (n i) (r i)) (h.entries_are i) (e i);
         live_are = λ i t.
             not (over i) && (issues (e i) t || (h.live_are i t && not (spends (e i) t)));

@@ -190,7 +190,7 @@ module _ {T A : Type 0} (equal : T → T → Bool) where
   breaks_at o items place item within at past recorded whole none = record {
     is_within = within;
     before = (past, recorded, whole);
-    not_on = λ on. no_more o (reverse (take place items)) item past recorded whole none on.0
+    not_with_next = λ on. no_more o (reverse (take place items)) item past recorded whole none on.0
         (subst (λ l. AllZip (Describes equal) l on.0) (with_next items place item within at) on.1) on.2;
   }
 

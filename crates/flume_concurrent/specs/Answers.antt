@@ -9,7 +9,7 @@ use Rattle.flume_concurrent.specs.declared.call.Answer.{Answer}
 use Rattle.flume_concurrent.specs.declared.call.Answer.TheVariants.{Sent, Full, Got, Empty}
 use Rattle.flume_concurrent.specs.declared.call.Answer.TheVariants.{Disconnected, Timeout, NoMemory}
 use Rattle.flume_concurrent.specs.declared.call.Answer.TheVariants.{Dropped, Drained, Done, NoEnd}
-use Rattle.flume_concurrent.specs.declared.call.Answer.TheVariants.{CountFull, Number, Truth}
+use Rattle.flume_concurrent.specs.declared.call.Answer.TheVariants.{CountFull, Number, Flag}
 use Rattle.flume_concurrent.specs.declared.call.Answer.TheVariants.{Capacity, Unbounded}
 use Rattle.flume_concurrent.specs.declared.stage.Stage.{Stage}
 use Rattle.flume_concurrent.specs.declared.stage.Stage.TheVariants.{Begun, Tried, Answered}
@@ -30,7 +30,7 @@ module _ {T A : Type 0} where
   equal_answers equal NoEnd NoEnd = true
   equal_answers equal CountFull CountFull = true
   equal_answers equal (Number n) (Number m) = nat_eq n m
-  equal_answers equal (Truth b) (Truth c) = beq b c
+  equal_answers equal (Flag b) (Flag c) = beq b c
   equal_answers equal (Capacity n) (Capacity m) = option_eq nat_eq n m
   equal_answers equal Unbounded Unbounded = true
   equal_answers equal _ _ = false

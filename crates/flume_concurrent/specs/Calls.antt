@@ -113,6 +113,6 @@ module _ {T A : Type 0} where
   stage_after call stage reply.NoEnd = Answered answer.NoEnd
   stage_after call stage reply.CountFull = Answered answer.CountFull
   stage_after call stage (reply.Number n) = Answered (answer.Number n)
-  stage_after call stage (reply.Truth b) = Answered (answer.Truth b)
+  stage_after call stage (reply.Flag b) = Answered (answer.Flag b)
   stage_after call stage (reply.Capacity c) = Answered (answer.Capacity c)
   stage_after call stage reply.Unbounded = Answered answer.Unbounded

@@ -25,4 +25,4 @@ module _ {T A : Type 0} (equal : T → T → Bool) where
   pub record BreaksAt (opening : Opening) (items : List (Item T A)) (place : ℕ) : Type 0 where
     pub is_within : place < length items
     pub before : DescribeExplanation opening (take place items)
-    pub not_on : DescribeExplanation opening (take (place + 1) items) → ⊥
+    pub not_with_next : DescribeExplanation opening (take (place + 1) items) → ⊥

@@ -50,7 +50,7 @@ pub enum Answer<T, A: Allocator = Global> {
     NoEnd,
     CountFull,
     Number(usize),
-    Truth(bool),
+    Flag(bool),
     Capacity(Option<usize>),
     Unbounded,
 }

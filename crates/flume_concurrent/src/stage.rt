@@ -136,7 +136,7 @@ pub fn stage_after<T: Copy + Drop, A: Allocator + Copy>(
         Reply::NoEnd => Stage::Answered(Answer::NoEnd),
         Reply::CountFull => Stage::Answered(Answer::CountFull),
         Reply::Number(number) => Stage::Answered(Answer::Number(number)),
-        Reply::Truth(truth) => Stage::Answered(Answer::Truth(truth)),
+        Reply::Flag(flag) => Stage::Answered(Answer::Flag(flag)),
         Reply::Capacity(capacity) => Stage::Answered(Answer::Capacity(capacity)),
         Reply::Unbounded => Stage::Answered(Answer::Unbounded),
     }

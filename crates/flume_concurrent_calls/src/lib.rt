@@ -43,9 +43,9 @@ pub fn sends_agree<T, A: Allocator>()
     ensures dropped { (message : T) (t : ℕ) (reply : Reply T A) (next : SendNext T)
         → after_parked_send t true reply next
         → stage_after (SendAsync message) (Parked t) reply ≡ stage_of_send (untimed next) }
-    ensures asks_by { (call : Call T) (t : ℕ) → is_send call ≡ true
+    ensures asks_step { (call : Call T) (t : ℕ) → is_send call ≡ true
         → next_step {A = A} call (Parked t) ≡ Some (step_of_parked_send t false) }
-    ensures leaves_by { (message : T) (t : ℕ)
+    ensures leaves_step { (message : T) (t : ℕ)
         → alternative_step {A = A} (SendTimeout message) (Parked t)
         ≡ Some (step_of_parked_send t true) }
 {}
@@ -69,9 +69,9 @@ pub fn receives_agree<T, A: Allocator>()
         → blocks_to_receive call ≡ true → after_parked_receive t true reply (Done answer)
         → stage_after call (Refused t) reply
         ≡ stage_of_receive (Done (got_or_no_memory answer)) }
-    ensures asks_by { (call : Call T) (t : ℕ) → blocks_to_receive call ≡ true
+    ensures asks_step { (call : Call T) (t : ℕ) → blocks_to_receive call ≡ true
         → next_step {A = A} call (Parked t) ≡ Some (step_of_parked_receive t false) }
-    ensures leaves_by { (t : ℕ)
+    ensures leaves_step { (t : ℕ)
         → alternative_step {T = T} {A = A} RecvTimeout (Parked t)
         ≡ Some (step_of_parked_receive t true) }
 {}

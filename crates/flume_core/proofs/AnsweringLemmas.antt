@@ -119,7 +119,7 @@ module _ {T A S : Type 0} where
       go [] = refl
       go (x ∷ q) = refl
 
-  -- the truth values of a closed channel
+  -- the flag values of a closed channel
   pub closed_as : (o : Opening) (log : Log T A) (s : State T S) → Represents o log s
       → is_closed s.senders s.receivers ≡ is_closed (senders log) (receivers log)
   closed_as o log s h = rw (h.senders_are, h.receivers_are) refl

@@ -20,7 +20,7 @@ use Rattle.flume_model.specs.Entries.{is_woken, is_filled, entry_of, again, leav
 use Rattle.flume_model.specs.Parked.{LogEntry, entries}
 use Rattle.flume_model.specs.Channel.{channel}
 use Rattle.flume_model.specs.WaitLaws.{is_block, block_woken}
-use Rattle.flume_state.specs.Receivers.{status_of, receiver_status, looks, is_unfilled_block, noticed_receiver}
+use Rattle.flume_state.specs.Receivers.{status_of, receiver_status, looks_at_line, is_unfilled_block, with_receiver_notice}
 use Rattle.flume_state.specs.State.{State, bare}
 use Rattle.flume_core.specs.Represents.{Represents}
 use Rattle.flume_state.specs.Effects.{with_front, after_take, without_receiver, after_withdrawal, with_peak}
@@ -111,7 +111,7 @@ module _ {T A S : Type 0} where
 
   -- one that blocks and waits, waits on
   pub poll_waits : (o : Opening) (log : Log T A) (s new : State T S) (t : ℕ) (f : Notice S → Notice S) → Represents o log s
-      → receiver_status t s.entries ≡ Some BlockWaiting → new ≡ with_peak (again t (noticed_receiver f t s.entries)) s
+      → receiver_status t s.entries ≡ Some BlockWaiting → new ≡ with_peak (again t (with_receiver_notice f t s.entries)) s
       → Represents o ((Poll t, WaitsOn) ∷ log) new
   poll_waits o log s new t f h represents is =
       let at = one_found (entry_of t s.entries) BlockWaiting represents in
@@ -120,12 +120,12 @@ module _ {T A S : Type 0} where
   -- one that looks takes the front
   pub poll_takes : (o : Opening) (log : Log T A) (s new : State T S) (t : ℕ) (st : ReceiverStatus) (m : T) (rest : List T)
       → Represents o log s
-      → receiver_status t s.entries ≡ Some st → looks (Some st) ≡ true → (with_front s).queue ≡ m ∷ rest
+      → receiver_status t s.entries ≡ Some st → looks_at_line (Some st) ≡ true → (with_front s).queue ≡ m ∷ rest
       → new ≡ without_receiver t (after_take rest s)
       → Represents o ((Poll t, Got m) ∷ log) new
   poll_takes o log s new t st m rest h represents looking front is =
       let at = one_found (entry_of t s.entries) st represents in
-      let look : looks (Some (status_of at.0)) ≡ true = ap (λ x. looks (Some x)) at.2 ∙ looking in
+      let look : looks_at_line (Some (status_of at.0)) ≡ true = ap (λ x. looks_at_line (Some x)) at.2 ∙ looking in
       let in_log = filled_in_log h t at.0 false at.1 (looks_unfilled at.0.kind at.0.mark look) in
       takes o log _ s new m (Some t) rest h
       (rw (entry_in_log h t at.0 at.1) (polled_got A (channel o log) at.0.kind at.0.mark m look (front_line o log s m rest h front)))
@@ -133,11 +133,11 @@ module _ {T A S : Type 0} where
 
   -- one that looks finds the channel at its end
   pub poll_ends : (o : Opening) (log : Log T A) (s new : State T S) (t : ℕ) (st : ReceiverStatus) → Represents o log s
-      → receiver_status t s.entries ≡ Some st → looks (Some st) ≡ true → (with_front s).queue ≡ [] → IsClosed s.senders s.receivers
+      → receiver_status t s.entries ≡ Some st → looks_at_line (Some st) ≡ true → (with_front s).queue ≡ [] → IsClosed s.senders s.receivers
       → new ≡ without_receiver t s → Represents o ((Poll t, Ended) ∷ log) new
   poll_ends o log s new t st h represents looking none closed is =
       let at = one_found (entry_of t s.entries) st represents in
-      let look : looks (Some (status_of at.0)) ≡ true = ap (λ x. looks (Some x)) at.2 ∙ looking in
+      let look : looks_at_line (Some (status_of at.0)) ≡ true = ap (λ x. looks_at_line (Some x)) at.2 ∙ looking in
       let empty_ : s.queue ≡ [] = fronted_empty s none in
       departs o log _ s new t None h
       (rw (entry_in_log h t at.0 at.1)
@@ -147,11 +147,11 @@ module _ {T A S : Type 0} where
   -- one that looks waits on, or again
   pub poll_waits_on : (o : Opening) (log : Log T A) (s new : State T S) (t : ℕ) (st : ReceiverStatus) (f : Notice S → Notice S)
       → Represents o log s
-      → receiver_status t s.entries ≡ Some st → looks (Some st) ≡ true → (with_front s).queue ≡ [] → IsOpen s.senders s.receivers
-      → new ≡ with_peak (again t (noticed_receiver f t s.entries)) s → Represents o ((Poll t, WaitsOn) ∷ log) new
+      → receiver_status t s.entries ≡ Some st → looks_at_line (Some st) ≡ true → (with_front s).queue ≡ [] → IsOpen s.senders s.receivers
+      → new ≡ with_peak (again t (with_receiver_notice f t s.entries)) s → Represents o ((Poll t, WaitsOn) ∷ log) new
   poll_waits_on o log s new t st f h represents looking none open_ is =
       let at = one_found (entry_of t s.entries) st represents in
-      let look : looks (Some (status_of at.0)) ≡ true = ap (λ x. looks (Some x)) at.2 ∙ looking in
+      let look : looks_at_line (Some (status_of at.0)) ≡ true = ap (λ x. looks_at_line (Some x)) at.2 ∙ looking in
       let is_open = open_at_log h open_ in
       asks o log _ s new t f h
       (rw (entry_in_log h t at.0 at.1)

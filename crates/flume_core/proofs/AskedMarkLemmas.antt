@@ -11,12 +11,12 @@ use Rattle.flume_state.specs.declared.entries.ReceiverStatus.TheVariants.{Waitin
 use Rattle.flume_model.specs.Limits.{IsOpen, IsClosed, is_closed}
 use Rattle.flume_model.specs.Entries.{is_woken, is_filled, leave_fills}
 use Rattle.flume_model.specs.Channel.{Channel, IsFront}
-use Rattle.flume_model.specs.Asking.{IsPolledMark, IsGoneMark}
+use Rattle.flume_model.specs.Asking.{IsPollReplyByMark, IsWithdrawReplyByMark}
 use Rattle.flume_model.specs.WaitLaws.{is_block}
-use Rattle.flume_state.specs.Receivers.{status_by, looks, is_unfilled_block}
+use Rattle.flume_state.specs.Receivers.{status_by, looks_at_line, is_unfilled_block}
 
 -- one that neither is filled nor blocks as it waits looks
-pub looks_else : (st : ReceiverStatus) → st ≢ IsFilled → st ≢ BlockWaiting → looks (Some st) ≡ true
+pub looks_else : (st : ReceiverStatus) → st ≢ IsFilled → st ≢ BlockWaiting → looks_at_line (Some st) ≡ true
 looks_else IsFilled a b = absurd (a refl)
 looks_else BlockWaiting a b = absurd (b refl)
 looks_else BlockWoken a b = refl
@@ -33,7 +33,7 @@ blocks_else BlockWoken a b c = refl
 
 module _ {T : Type 0} where
   -- one that looks isn't filled
-  pub looks_unfilled : (k : Kind) (mark : Mark T) → looks (Some (status_by k mark)) ≡ true → is_filled mark ≡ false
+  pub looks_unfilled : (k : Kind) (mark : Mark T) → looks_at_line (Some (status_by k mark)) ≡ true → is_filled mark ≡ false
   looks_unfilled k (Filled m) e = absurd (let none : ⊥ = cc in none)
   looks_unfilled k Waiting e = refl
   looks_unfilled k Woken e = refl
@@ -45,9 +45,9 @@ module _ {T : Type 0} where
   blocks_unfilled k Woken e = refl
 
   -- one that is such that it looks isn't filled
-  pub unfilled_as : (k : Kind) (mark : Mark T) (st : ReceiverStatus) → status_by k mark ≡ st → looks (Some st) ≡ true
+  pub unfilled_as : (k : Kind) (mark : Mark T) (st : ReceiverStatus) → status_by k mark ≡ st → looks_at_line (Some st) ≡ true
       → is_filled mark ≡ false
-  unfilled_as k mark st e looking = looks_unfilled k mark (ap (λ x. looks (Some x)) e ∙ looking)
+  unfilled_as k mark st e looking = looks_unfilled k mark (ap (λ x. looks_at_line (Some x)) e ∙ looking)
 
   -- one of another kind that isn't filled
   pub other_parts : (k : Kind) (mark : Mark T) → (status_by k mark ≡ IsWaiting) ⊎ (status_by k mark ≡ IsWoken)
@@ -64,31 +64,32 @@ module _ {T : Type 0} where
 
 module _ {T : Type 0} (A : Type 0) where
   -- a filled one gets its message, asking or leaving
-  pub polled_collected : (c : Channel T) (k : Kind) (mark : Mark T) (m : T) → mark ≡ Filled m → IsPolledMark {A = A} c k mark (Got m)
+  pub polled_collected : (c : Channel T) (k : Kind) (mark : Mark T) (m : T) → mark ≡ Filled m → IsPollReplyByMark {A = A} c k mark (Got m)
   polled_collected c k mark m e = rw e refl
 
-  pub gone_collected : (c : Channel T) (t : ℕ) (k : Kind) (mark : Mark T) (m : T) → mark ≡ Filled m → IsGoneMark {A = A} c t k mark (Got m)
+  pub gone_collected : (c : Channel T) (t : ℕ) (k : Kind) (mark : Mark T) (m : T) → mark ≡ Filled m
+      → IsWithdrawReplyByMark {A = A} c t k mark (Got m)
   gone_collected c t k mark m e = rw e refl
 
   -- one that looks may get the front
-  pub polled_got : (c : Channel T) (k : Kind) (mark : Mark T) (m : T) → looks (Some (status_by k mark)) ≡ true → IsFront c m
-      → IsPolledMark {A = A} c k mark (Got m)
+  pub polled_got : (c : Channel T) (k : Kind) (mark : Mark T) (m : T) → looks_at_line (Some (status_by k mark)) ≡ true → IsFront c m
+      → IsPollReplyByMark {A = A} c k mark (Got m)
   polled_got c k (Filled x) m e front = absurd (let none : ⊥ = cc in none)
   polled_got c Block Waiting m e front = absurd (let none : ⊥ = cc in none)
   polled_got c Block Woken m e front = front
   polled_got c _ _ m e front = front
 
   -- one that looks may be answered `Ended`
-  pub polled_ended : (c : Channel T) (k : Kind) (mark : Mark T) → looks (Some (status_by k mark)) ≡ true → c.line ≡ []
-      → IsClosed c.senders c.receivers → IsPolledMark {A = A} c k mark Ended
+  pub polled_ended : (c : Channel T) (k : Kind) (mark : Mark T) → looks_at_line (Some (status_by k mark)) ≡ true → c.line ≡ []
+      → IsClosed c.senders c.receivers → IsPollReplyByMark {A = A} c k mark Ended
   polled_ended c k (Filled x) e none closed = absurd (let no : ⊥ = cc in no)
   polled_ended c Block Waiting e none closed = absurd (let no : ⊥ = cc in no)
   polled_ended c Block Woken e none closed = none
   polled_ended c _ _ e none closed = (none, closed)
 
   -- one that looks may wait on, if it wasn't woken as one that blocks
-  pub polled_waits : (c : Channel T) (k : Kind) (mark : Mark T) → looks (Some (status_by k mark)) ≡ true → c.line ≡ []
-      → IsOpen c.senders c.receivers → (is_block k && is_woken mark) ≡ false → IsPolledMark {A = A} c k mark WaitsOn
+  pub polled_waits : (c : Channel T) (k : Kind) (mark : Mark T) → looks_at_line (Some (status_by k mark)) ≡ true → c.line ≡ []
+      → IsOpen c.senders c.receivers → (is_block k && is_woken mark) ≡ false → IsPollReplyByMark {A = A} c k mark WaitsOn
   polled_waits c k (Filled x) e none open_ other = absurd (let no : ⊥ = cc in no)
   polled_waits c Block Waiting e none open_ other = absurd (let no : ⊥ = cc in no)
   polled_waits c Block Woken e none open_ other = absurd (let no : ⊥ = cc in no)
@@ -96,7 +97,7 @@ module _ {T : Type 0} (A : Type 0) where
 
   -- one that blocks and waits waits on
   pub polled_blocked : (c : Channel T) (k : Kind) (mark : Mark T) → status_by k mark ≡ BlockWaiting
-      → IsPolledMark {A = A} c k mark WaitsOn
+      → IsPollReplyByMark {A = A} c k mark WaitsOn
   polled_blocked c k (Filled x) e = absurd (let no : ⊥ = cc in no)
   polled_blocked c Block Waiting e = tt
   polled_blocked c Block Woken e = absurd (let no : ⊥ = cc in no)
@@ -105,7 +106,7 @@ module _ {T : Type 0} (A : Type 0) where
   -- one that blocks may leave with the front
   pub gone_got : (c : Channel T) (t : ℕ) (k : Kind) (mark : Mark T) (m : T) → is_unfilled_block (Some (status_by k mark)) ≡ true
       → IsFront c m
-      → IsGoneMark {A = A} c t k mark (Got m)
+      → IsWithdrawReplyByMark {A = A} c t k mark (Got m)
   gone_got c t k (Filled x) m e front = absurd (let none : ⊥ = cc in none)
   gone_got c t Block Waiting m e front = front
   gone_got c t Block Woken m e front = front
@@ -114,7 +115,7 @@ module _ {T : Type 0} (A : Type 0) where
   -- one that blocks may leave with no message
   pub gone_none : (c : Channel T) (t : ℕ) (k : Kind) (mark : Mark T) (closed : Bool) → is_unfilled_block (Some (status_by k mark)) ≡ true
       → c.line ≡ []
-      → closed ≡ is_closed c.senders c.receivers → IsGoneMark {A = A} c t k mark (Gone closed None)
+      → closed ≡ is_closed c.senders c.receivers → IsWithdrawReplyByMark {A = A} c t k mark (Gone closed None)
   gone_none c t k (Filled x) closed e none is = absurd (let no : ⊥ = cc in no)
   gone_none c t Block Waiting closed e none is = (none, is, refl)
   gone_none c t Block Woken closed e none is = (none, is, refl)
@@ -123,7 +124,7 @@ module _ {T : Type 0} (A : Type 0) where
   -- one of another kind leaves with none, and passes its wake on
   pub gone_other : (c : Channel T) (t : ℕ) (k : Kind) (mark : Mark T) (closed : Bool) (filled : Option ℕ)
       → is_unfilled_block (Some (status_by k mark)) ≡ false → is_filled mark ≡ false → closed ≡ is_closed c.senders c.receivers
-      → filled ≡ leave_fills t c.queue c.entries → IsGoneMark {A = A} c t k mark (Gone closed filled)
+      → filled ≡ leave_fills t c.queue c.entries → IsWithdrawReplyByMark {A = A} c t k mark (Gone closed filled)
   gone_other c t k (Filled x) closed filled e empty is fills = absurd (let no : ⊥ = cc in no)
   gone_other c t Block Waiting closed filled e empty is fills = absurd (let no : ⊥ = cc in no)
   gone_other c t Block Woken closed filled e empty is fills = absurd (let no : ⊥ = cc in no)

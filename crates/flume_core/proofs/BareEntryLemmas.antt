@@ -10,7 +10,7 @@ use Rattle.flume_state.specs.declared.notice.Notice.{Notice}
 use Rattle.flume_model.specs.Entries.{is_waiting, is_woken, some_wait, waiting_count, round, round_fills, round_for, round_for_fills}
 use Rattle.flume_model.specs.Entries.{all_woken, entry_of, held_by, without_ticket, again_as, again, passes_on, after_leave, leave_fills}
 use Rattle.flume_model.specs.Parked.{same_notice}
-use Rattle.flume_state.specs.Receivers.{noticed_receiver}
+use Rattle.flume_state.specs.Receivers.{with_receiver_notice}
 use Rattle.flume_state.specs.State.{bare}
 
 module _ {T N : Type 0} where
@@ -131,11 +131,12 @@ module _ {T N : Type 0} where
 
 module _ {T S : Type 0} where
   -- another notice
-  pub bare_noticed : (f : Notice S → Notice S) (t : ℕ) (es : List (Entry T (Notice S))) → map bare (noticed_receiver f t es) ≡ map bare es
+  pub bare_noticed : (f : Notice S → Notice S) (t : ℕ) (es : List (Entry T (Notice S)))
+      → map bare (with_receiver_notice f t es) ≡ map bare es
   bare_noticed f t [] = refl
   bare_noticed f t (e ∷ es) = by_case (eqb e.ticket t) refl (bare_noticed f t es)
     where
-      by_case : (b : Bool) → eqb e.ticket t ≡ b → map bare (noticed_receiver f t es) ≡ map bare es
-          → map bare (noticed_receiver f t (e ∷ es)) ≡ map bare (e ∷ es)
+      by_case : (b : Bool) → eqb e.ticket t ≡ b → map bare (with_receiver_notice f t es) ≡ map bare es
+          → map bare (with_receiver_notice f t (e ∷ es)) ≡ map bare (e ∷ es)
       by_case true same rest = simp same refl
       by_case false other rest = simp other (ap (λ l. bare e ∷ l) rest)

@@ -10,7 +10,7 @@ use Rattle.flume_model.specs.Log.{Log, Opening, Offer, Change, Queues, Blocks, A
 use Rattle.flume_model.specs.Log.{Leaves, SenderJoins, ReceiverJoins, SenderLeaves, ReceiverLeaves, Resizes, Stays, capped, change}
 use Rattle.flume_model.specs.Offers.{kept, handed_out}
 use Rattle.flume_model.specs.Counts.{is_over}
-use Rattle.flume_model.specs.Line.{line, capacity, capacity_after, boundary, boundary_after, blocked, issues, spends, is_live, fill_count}
+use Rattle.flume_model.specs.Line.{line, capacity, capacity_after, queue_len, queue_len_after, blocked, issues, spends, is_live, fill_count}
 use Rattle.flume_model.specs.Line.{next_ticket}
 use Rattle.flume_model.specs.Entries.{some_wait}
 use Rattle.flume_model.specs.Parked.{entries}
@@ -60,13 +60,14 @@ module _ {T A : Type 0} where
   -- the offers blocked after a change
   abbrev blocked_by : Opening → Log T A → Change T → List (Offer T)
   blocked_by o past done =
-      drop (boundary_after (capacity_after (capacity o past) done) (length (line_by past done)) (boundary o past) done) (line_by past done)
+      drop (queue_len_after (capacity_after (capacity o past) done) (length (line_by past done)) (queue_len o past) done)
+      (line_by past done)
 
   -- a change that leaves the line leaves the blocked messages
   left_same : (o : Opening) (past : Log T A) (done : Change T) (t : ℕ) → is_over past ≡ false → keeps_line done ≡ true
-      → has_ticket t (drop (boundary o past) (line_by past done)) ≡ true → has_ticket t (blocked o past) ≡ true
+      → has_ticket t (drop (queue_len o past) (line_by past done)) ≡ true → has_ticket t (blocked o past) ≡ true
   left_same o past done t open_ keeps h =
-      sym (ap (λ l. has_ticket t (drop (boundary o past) l)) (line_same past done keeps ∙ sym (line_is_open past open_))) ∙ h
+      sym (ap (λ l. has_ticket t (drop (queue_len o past) l)) (line_same past done keeps ∙ sym (line_is_open past open_))) ∙ h
 
   -- if the front is taken, no more are blocked
   left_taken : (o : Opening) (past : Log T A) (m : T) (receiver : Option ℕ) → IsRun o past → IsFront (channel o past) m
@@ -74,11 +75,11 @@ module _ {T A : Type 0} where
   left_taken o past m receiver run h open_ t is =
       let front = front_at (line past) m h.0 h.1 in
       let left = line_by past (Takes m receiver) in
-      let k = max (boundary o past - 1) (capped (capacity o past) (length left)) in
+      let k = max (queue_len o past - 1) (capped (capacity o past) (length left)) in
       let same : left ≡ drop 1 (line past) =
       line_front past m receiver front.0 front.1 (sym (line_is_open past open_) ∙ front.2) ∙ sym (ap (drop 1) front.2) in
       let all : drop k left ≡ drop (1 + k) (line past) = ap (drop k) same ∙ drop-drop k 1 (line past) in
-      has_behind t (boundary o past) (1 + k) (line past) (omega arith) (sym (ap (has_ticket t) all) ∙ is)
+      has_behind t (queue_len o past) (1 + k) (line past) (omega arith) (sym (ap (has_ticket t) all) ∙ is)
 
   -- after a change that fits, each blocked message's ticket is left so
   left_by : (o : Opening) (past : Log T A) (done : Change T) → IsRun o past → Fits (channel o past) done → is_over past ≡ false → (t : ℕ)
@@ -89,8 +90,8 @@ module _ {T A : Type 0} where
       let one = at_most filled in
       let none : blocked_by o past (Queues m filled) ≡ [] =
       nil_by (blocked_by o past (Queues m filled)) (λ more.
-      let cut = length-drop (boundary o past + 1 - fill_count filled) (line_by past (Queues m filled)) in
-      room_or_full (capacity o past) (boundary o past)
+      let cut = length-drop (queue_len o past + 1 - fill_count filled) (line_by past (Queues m filled)) in
+      room_or_full (capacity o past) (queue_len o past)
       (h.0.1 (unlike_true (some_wait (entries o past)) (λ some. omega (arith, shape.waits some)))) (shape.full (omega arith))) in
       let no : has_ticket t (blocked_by o past (Queues m filled)) ≡ false = ap (has_ticket t) none in
       absurd (let none : ⊥ = cc in none)
@@ -101,7 +102,7 @@ module _ {T A : Type 0} where
       let same : line_by past (Blocks m u) ≡ line past ++ x ∷ [] =
       line_more past x (shape.unissued u m (omega arith)) given ∙ ap (λ l. l ++ x ∷ []) (sym (line_is_open past open_)) in
       let all : blocked_by o past (Blocks m u) ≡ blocked o past ++ x ∷ [] =
-      ap (drop (boundary o past)) same ∙ drop-append-le (boundary o past) (line past) (x ∷ []) shape.within in
+      ap (drop (queue_len o past)) same ∙ drop-append-le (queue_len o past) (line past) (x ∷ []) shape.within in
       let has : (has_ticket t (blocked o past) || has_ticket t (x ∷ [])) ≡ true =
       sym (has_ticket-append t (blocked o past) (x ∷ [])) ∙ sym (ap (has_ticket t) all) ∙ is in
       elim (or_cases (has_ticket t (blocked o past)) (has_ticket t (x ∷ [])) has) as (λ _. Left o past (Blocks m u) t)
@@ -111,17 +112,17 @@ module _ {T A : Type 0} where
       let x : Offer T = record { message = h.0; ticket = Some u } in
       let before = h.1.1 in
       let later = h.1.2 in
-      let front = take (boundary o past) (line past) in
+      let front = take (queue_len o past) (line past) in
       let given = given_within (kept past) (handed_out past) shape.parts in
       let place : line past ≡ front ++ (before ++ x ∷ later) =
-      sym (take-append-drop (boundary o past) (line past)) ∙ ap (λ l. front ++ l) h.1.3 in
+      sym (take-append-drop (queue_len o past) (line past)) ∙ ap (λ l. front ++ l) h.1.3 in
       let none = apart_in_line o past run front before later u h.0 place in
       let same : line_by past (Withdraws u) ≡ front ++ (before ++ later) =
       line_less past (next_ticket o past) u h.0 (front ++ before) later shape.rising given
       (sym (line_is_open past open_) ∙ place ∙ sym (append_assoc front before (x ∷ later))) ∙ append_assoc front before later in
       let all : blocked_by o past (Withdraws u) ≡ before ++ later =
-      ap (drop (boundary o past)) same
-      ∙ drop_at front (before ++ later) (boundary o past) (length-take-le (boundary o past) (line past) shape.within) in
+      ap (drop (queue_len o past)) same
+      ∙ drop_at front (before ++ later) (queue_len o past) (length-take-le (queue_len o past) (line past) shape.within) in
       let has : (has_ticket t before || has_ticket t later) ≡ true =
       sym (has_ticket-append t before later) ∙ sym (ap (has_ticket t) all) ∙ is in
       inr (
@@ -134,20 +135,20 @@ module _ {T A : Type 0} where
   left_by o past (Drains list) run h open_ t is =
       let shape = shape_of o past run in
       let left = line_by past (Drains list) in
-      let many : length list ≡ boundary o past =
-      ap length h ∙ length-map (take (boundary o past) (line past)) (λ x. x.message)
-      ∙ length-take-le (boundary o past) (line past) shape.within in
+      let many : length list ≡ queue_len o past =
+      ap length h ∙ length-map (take (queue_len o past) (line past)) (λ x. x.message)
+      ∙ length-take-le (queue_len o past) (line past) shape.within in
       let k = capped (capacity o past) (length left) in
       let all : blocked_by o past (Drains list) ≡ drop (length list + k) (line past) =
       ap (drop k) (line_drained past list ∙ ap (drop (length list)) (sym (line_is_open past open_)))
       ∙ drop-drop k (length list) (line past) in
-      inr (has_behind t (boundary o past) (length list + k) (line past) (omega arith) (sym (ap (has_ticket t) all) ∙ is), refl)
+      inr (has_behind t (queue_len o past) (length list + k) (line past) (omega arith) (sym (ap (has_ticket t) all) ∙ is), refl)
   left_by o past (Leaves u filled) run h open_ t is =
-      let k = boundary o past - fill_count filled in
+      let k = queue_len o past - fill_count filled in
       let all : blocked_by o past (Leaves u filled) ≡ drop (fill_count filled + k) (line past) =
       ap (drop k) (line_after_leave past u filled ∙ ap (drop (fill_count filled)) (sym (line_is_open past open_)))
       ∙ drop-drop k (fill_count filled) (line past) in
-      inr (has_behind t (boundary o past) (fill_count filled + k) (line past) (omega arith) (sym (ap (has_ticket t) all) ∙ is), refl)
+      inr (has_behind t (queue_len o past) (fill_count filled + k) (line past) (omega arith) (sym (ap (has_ticket t) all) ∙ is), refl)
   left_by o past (Accepts u) run h open_ t is =
       let was = left_same o past (Accepts u) t open_ refl is in
       inr (
@@ -165,8 +166,8 @@ module _ {T A : Type 0} where
   left_by o past ReceiverLeaves run h open_ t is = inr (left_same o past ReceiverLeaves t open_ refl is, refl)
   left_by o past (Resizes new) run h open_ t is =
       let same : line_by past (Resizes new) ≡ line past = line_same past (Resizes new) refl ∙ sym (line_is_open past open_) in
-      let k = max (boundary o past) (capped (Some new) (length (line_by past (Resizes new)))) in
-      inr (has_behind t (boundary o past) k (line past) (omega arith) (sym (ap (λ l. has_ticket t (drop k l)) same) ∙ is), refl)
+      let k = max (queue_len o past) (capped (Some new) (length (line_by past (Resizes new)))) in
+      inr (has_behind t (queue_len o past) k (line past) (omega arith) (sym (ap (λ l. has_ticket t (drop k l)) same) ∙ is), refl)
   left_by o past Stays run h open_ t is = inr (left_same o past Stays t open_ refl is, refl)
 
   -- the ticket of each blocked message is live
@@ -186,18 +187,18 @@ module _ {T A : Type 0} where
           → is_live (p ∷ past) t ≡ true
       by_case true over rest =
           let none : blocked o (p ∷ past) ≡ [] =
-          ap (drop (boundary o (p ∷ past))) (cond-true (is_over (p ∷ past)) [] (open_line (p ∷ past)) over)
-          ∙ drop-nil (boundary o (p ∷ past)) in
+          ap (drop (queue_len o (p ∷ past))) (cond-true (is_over (p ∷ past)) [] (open_line (p ∷ past)) over)
+          ∙ drop-nil (queue_len o (p ∷ past)) in
           let no : has_ticket t (blocked o (p ∷ past)) ≡ false = ap (has_ticket t) none in
           absurd (let none : ⊥ = cc in none)
       by_case false open_ rest =
           let filled_marks = filled_if_named o past run.1 in
           let same : line (p ∷ past) ≡ line_by past done = line_is_open (p ∷ past) open_ in
-          let queued : boundary o (p ∷ past) ≡ boundary_after (capacity o (p ∷ past)) (length (line (p ∷ past))) (boundary o past) done =
+          let queued : queue_len o (p ∷ past) ≡ queue_len_after (capacity o (p ∷ past)) (length (line (p ∷ past))) (queue_len o past) done =
           cond-false (is_over (p ∷ past)) 0 _ open_ in
           let all : blocked o (p ∷ past) ≡ blocked_by o past done =
           ap (λ n. drop n (line (p ∷ past))) queued
-          ∙ ap (λ l. drop (boundary_after (capacity o (p ∷ past)) (length l) (boundary o past) done) l) same in
+          ∙ ap (λ l. drop (queue_len_after (capacity o (p ∷ past)) (length l) (queue_len o past) done) l) same in
           let left = left_by o past done run.1 (fits o past p.0 p.1 filled_marks run.0) (not_over_yet o past p filled_marks run open_) t
           (sym (ap (has_ticket t) all) ∙ is) in
           ap (λ b. not b && (issues done t || (is_live past t && not (spends done t)))) open_ ∙ go rest left

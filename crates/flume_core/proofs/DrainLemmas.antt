@@ -12,7 +12,7 @@ use Rattle.flume_model.specs.Channel.{channel, has_ticket}
 use Rattle.flume_model.specs.Replies.{IsReply}
 use Rattle.flume_model.specs.Limits.{HasRoom, IsAtCapacity, is_full}
 use Rattle.flume_state.specs.Messages.{Blocked}
-use Rattle.flume_state.specs.Sends.{SendMap, changed, accepted_now}
+use Rattle.flume_state.specs.Sends.{SendMap, with_send_changed, accepted_now}
 use Rattle.flume_state.specs.State.{State, offers_of}
 use Rattle.flume_core.specs.Represents.{Represents}
 use Rattle.flume_state.specs.Effects.{after_admissions, after_admissions_of}
@@ -51,7 +51,7 @@ module _ {T S : Type 0} where
   -- the live sends, once each of these was accepted
   abbrev pub accepted_all : List (Blocked T) → SendMap S → SendMap S
   accepted_all [] sends = sends
-  accepted_all (b ∷ moved) sends = accepted_all moved (changed sends b.ticket accepted_now)
+  accepted_all (b ∷ moved) sends = accepted_all moved (with_send_changed sends b.ticket accepted_now)
 
   -- what is there once blocked messages moved in while there was room
   pub record MovedIn (xs : List (Blocked T)) (s new : State T S) : Type 0 where
@@ -80,7 +80,7 @@ module _ {T S : Type 0} where
   moves_in (b ∷ xs) s at in_ = by_case (full_or_room s.capacity (length s.queue)) (λ u. moves_in xs u)
     where
       next : State T S
-      next = record s { queue = s.queue ++ b.message ∷ []; blocked = xs; sends = changed s.sends b.ticket accepted_now }
+      next = record s { queue = s.queue ++ b.message ∷ []; blocked = xs; sends = with_send_changed s.sends b.ticket accepted_now }
 
       by_case : ((is_full s.capacity (length s.queue) ≡ true) × IsAtCapacity s.capacity (length s.queue))
           ⊎ ((is_full s.capacity (length s.queue) ≡ false) × HasRoom s.capacity (length s.queue))
@@ -114,7 +114,7 @@ module _ {T S : Type 0} where
       → (q : ℕ) → mark (accepted_all moved sends) q ≡ status (live q) (has_ticket q (offers_of later))
   marks_all [] later sends live marks apart q = marks q
   marks_all (b ∷ moved) later sends live marks apart q =
-      marks_all moved later (changed sends b.ticket accepted_now) live
+      marks_all moved later (with_send_changed sends b.ticket accepted_now) live
       (marks_moved_in sends live b (moved ++ later) marks (apart [] b (moved ++ later) refl))
       (λ before x rest e. apart (b ∷ before) x rest (ap (λ l. b ∷ l) e)) q
 

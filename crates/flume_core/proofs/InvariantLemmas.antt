@@ -8,7 +8,7 @@ use Rattle.flume_model.specs.declared.step.Reply.{Reply}
 use Rattle.flume_model.specs.Log.{Log, Opening, Change, Queues, Blocks, Accepts, Withdraws, Takes, Drains, Parks, Asks, Collects}
 use Rattle.flume_model.specs.Log.{Leaves, SenderJoins, ReceiverJoins, SenderLeaves, ReceiverLeaves, Resizes, Stays, change}
 use Rattle.flume_model.specs.Counts.{senders, receivers, senders_after, receivers_after, is_over}
-use Rattle.flume_model.specs.Line.{boundary_after, capacity_after, tickets_issued, issues, spends, is_live}
+use Rattle.flume_model.specs.Line.{queue_len_after, capacity_after, tickets_issued, issues, spends, is_live}
 use Rattle.flume_model.specs.Channel.{channel, has_ticket}
 use Rattle.flume_model.specs.Replies.{IsReply}
 use Rattle.flume_model.specs.Entries.{waiting_count}
@@ -43,7 +43,7 @@ record KeepsAll {T : Type 0} (done : Change T) : Type 0 where
   keeps : keeps_line done ≡ true
   issues_no : (t : ℕ) → issues done t ≡ false
   spends_no : (t : ℕ) → spends done t ≡ false
-  queued_same : (capacity : Option ℕ) (long n : ℕ) → boundary_after capacity long n done ≡ n
+  queued_same : (capacity : Option ℕ) (long n : ℕ) → queue_len_after capacity long n done ≡ n
   capacity_same : (capacity : Option ℕ) → capacity_after capacity done ≡ capacity
 
 -- such a change does
@@ -77,11 +77,11 @@ module _ {T A S : Type 0} where
         sends = m;
         entries = es;
         peak = peak;
-        next = next;
+        next_ticket = next;
       }
       → SameMarks m old.sends
       → map bare es ≡ entries_after old.queue (not (is_closed_after past) && is_closed_after (p ∷ past)) (map bare old.entries) done
-      → peak ≡ max old.peak (waiting_count es) → next ≡ old.next + tickets_issued done → Represents o (p ∷ past) new
+      → peak ≡ max old.peak (waiting_count es) → next ≡ old.next_ticket + tickets_issued done → Represents o (p ∷ past) new
   keeps_standing o past p done old new m es peak next h reply e none open_ is marks entered peaked issued_ =
       let all = keeps_all done none in
       let before : is_over past ≡ false = not_over_yet o past p (filled_if_named o past h.run) (reply, h.run) open_ in
@@ -110,7 +110,7 @@ module _ {T A S : Type 0} where
     where
       by_case : (b : Bool) → is_over past ≡ b → Represents o (p ∷ past) new
       by_case false open_ =
-          keeps_standing o past p Stays old new m old.entries old.peak old.next h reply e refl
+          keeps_standing o past p Stays old new m old.entries old.peak old.next_ticket h reply e refl
           (over_same past p Stays e refl ∙ open_) is marks refl (peak_kept h old.entries (omega arith)) (omega arith)
       by_case true over =
           let none : length old.queue + length old.blocked ≡ 0 = sym (line_length h) ∙ ap length (line_over past over) in
@@ -143,7 +143,8 @@ module _ {T A S : Type 0} where
       ap (λ n. senders_after n done) h.senders_are ∙ sym (ap (senders_after (senders past)) e) in
       let b : receivers_after old.receivers done ≡ receivers (p ∷ past) =
       ap (λ n. receivers_after n done) h.receivers_are ∙ sym (ap (receivers_after (receivers past)) e) in
-      keeps_standing o past p done old new m es old.peak old.next h reply e none (open_not_over (p ∷ past) (omega arith)) is marks entered
+      keeps_standing o past p done old new m es old.peak old.next_ticket h reply e none (open_not_over (p ∷ past) (omega arith)) is
+      marks entered
       (peak_kept h es fewer) (omega arith)
 
   -- an end leaves, and none is left

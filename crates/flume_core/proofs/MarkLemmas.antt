@@ -11,7 +11,7 @@ use Rattle.flume_model.specs.Log.{Log, Opening}
 use Rattle.flume_model.specs.Line.{line, is_live}
 use Rattle.flume_model.specs.Channel.{has_ticket}
 use Rattle.flume_state.specs.Messages.{Blocked}
-use Rattle.flume_state.specs.Sends.{SendMap, newly_blocked as blocked_send, changed, accepted_now}
+use Rattle.flume_state.specs.Sends.{SendMap, newly_blocked as blocked_send, with_send_changed, accepted_now}
 use Rattle.flume_state.specs.State.{State, offers_of}
 use Rattle.flume_core.specs.Represents.{Represents}
 use Rattle.flume_model.proofs.TicketLemmas.{has_ticket-append}
@@ -55,15 +55,15 @@ module _ {T S : Type 0} where
   pub marks_moved_in : (sends : SendMap S) (live : ℕ → Bool) (b : Blocked T) (later : List (Blocked T))
       → ((q : ℕ) → mark sends q ≡ status (live q) (has_ticket q (offers_of (b ∷ later))))
       → has_ticket b.ticket (offers_of later) ≡ false
-      → (q : ℕ) → mark (changed sends b.ticket accepted_now) q ≡ status (live q) (has_ticket q (offers_of later))
+      → (q : ℕ) → mark (with_send_changed sends b.ticket accepted_now) q ≡ status (live q) (has_ticket q (offers_of later))
   marks_moved_in sends live b later marks gone q = ⊎_elim here there (cases_eq q b.ticket)
     where
       Claim : Type 0
-      Claim = mark (changed sends b.ticket accepted_now) q ≡ status (live q) (has_ticket q (offers_of later))
+      Claim = mark (with_send_changed sends b.ticket accepted_now) q ≡ status (live q) (has_ticket q (offers_of later))
 
       here : q ≡ b.ticket → Claim
       here e =
-          ap (mark (changed sends b.ticket accepted_now)) e
+          ap (mark (with_send_changed sends b.ticket accepted_now)) e
           ∙ ap (option_map (λ x. x.accepted)) (get-changed_same sends b.ticket accepted_now)
           ∙ accepted_mark (get sends b.ticket) (live b.ticket) _ (has_ticket b.ticket (offers_of later)) (marks b.ticket) gone
           ∙ ap (λ c. status c (has_ticket b.ticket (offers_of later))) (and-true (live b.ticket))
@@ -99,37 +99,38 @@ module _ {T A S : Type 0} where
 
   -- the marks once a send has blocked under the next ticket
   pub marks_inserted : {o : Opening} {past : Log T A} {old : State T S} → Represents o past old → (m : T) (signal : S) (q : ℕ)
-      → mark (insert old.sends old.next (blocked_send signal)) q
-      ≡ status (eqb old.next q || (is_live past q && not false))
-      (has_ticket q (offers_of (old.blocked ++ record { ticket = old.next; message = m } ∷ [])))
-  marks_inserted {o} {past} {old} h m signal q = ⊎_elim here there (cases_eq q old.next)
+      → mark (insert old.sends old.next_ticket (blocked_send signal)) q
+      ≡ status (eqb old.next_ticket q || (is_live past q && not false))
+      (has_ticket q (offers_of (old.blocked ++ record { ticket = old.next_ticket; message = m } ∷ [])))
+  marks_inserted {o} {past} {old} h m signal q = ⊎_elim here there (cases_eq q old.next_ticket)
     where
       waits : Bool
-      waits = has_ticket q (offers_of (old.blocked ++ record { ticket = old.next; message = m } ∷ []))
+      waits = has_ticket q (offers_of (old.blocked ++ record { ticket = old.next_ticket; message = m } ∷ []))
 
       Claim : Type 0
-      Claim = mark (insert old.sends old.next (blocked_send signal)) q ≡ status (eqb old.next q || (is_live past q && not false)) waits
+      Claim = mark (insert old.sends old.next_ticket (blocked_send signal)) q ≡ status
+          (eqb old.next_ticket q || (is_live past q && not false)) waits
 
-      here : q ≡ old.next → Claim
+      here : q ≡ old.next_ticket → Claim
       here e =
-          let same : eqb old.next q ≡ true = eq-eqb old.next q (sym e) in
-          ap (mark (insert old.sends old.next (blocked_send signal))) e
-          ∙ ap (option_map (λ x. x.accepted)) (get-insert_same old.sends old.next (blocked_send signal))
-          ∙ issued_waits (eqb old.next q) (is_live past q) waits same
+          let same : eqb old.next_ticket q ≡ true = eq-eqb old.next_ticket q (sym e) in
+          ap (mark (insert old.sends old.next_ticket (blocked_send signal))) e
+          ∙ ap (option_map (λ x. x.accepted)) (get-insert_same old.sends old.next_ticket (blocked_send signal))
+          ∙ issued_waits (eqb old.next_ticket q) (is_live past q) waits same
           (has_push q old.blocked _ ∙ ap (λ b. has_ticket q (offers_of old.blocked) || (b || false)) same ∙ or-true _)
 
-      there : q ≢ old.next → Claim
+      there : q ≢ old.next_ticket → Claim
       there ne =
-          let other : eqb old.next q ≡ false = ne_eqb old.next q (λ e. ne (sym e)) in
-          ap (option_map (λ x. x.accepted)) (get-insert_other old.sends old.next (blocked_send signal) q ne) ∙ status_is h q
-          ∙ sym (ap (λ b. status b waits) (still_live (eqb old.next q) (is_live past q) false other refl)
+          let other : eqb old.next_ticket q ≡ false = ne_eqb old.next_ticket q (λ e. ne (sym e)) in
+          ap (option_map (λ x. x.accepted)) (get-insert_other old.sends old.next_ticket (blocked_send signal) q ne) ∙ status_is h q
+          ∙ sym (ap (λ b. status b waits) (still_live (eqb old.next_ticket q) (is_live past q) false other refl)
           ∙ ap (status (is_live past q))
           (has_push q old.blocked _ ∙ ap (λ b. has_ticket q (offers_of old.blocked) || (b || false)) other ∙ or-false _))
 
   -- the marks once the first blocked message has moved in
   pub marks_admitted : (o : Opening) (past : Log T A) (old : State T S) (b : Blocked T) (later : List (Blocked T)) → Represents o past old
       → old.blocked ≡ b ∷ later → (q : ℕ)
-      → mark (changed old.sends b.ticket accepted_now) q ≡ status (is_live past q && true) (has_ticket q (offers_of later))
+      → mark (with_send_changed old.sends b.ticket accepted_now) q ≡ status (is_live past q && true) (has_ticket q (offers_of later))
   marks_admitted o past old b later h at q =
       let place : line past ≡ (queued h) ++ ([] ++ record { message = b.message; ticket = Some b.ticket } ∷ offers_of later) =
       line_is h ∙ ap (λ l. (queued h) ++ offers_of l) at in

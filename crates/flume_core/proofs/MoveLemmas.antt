@@ -86,25 +86,25 @@ module _ {T A S : Type 0} where
 
   -- a message is blocked
   pub blocks : (o : Opening) (past : Log T A) (p : Step T × Reply T A) (old new : State T S) (m : T) (signal : S) (space : ℕ)
-      → Represents o past old → IsReply (channel o past) p.0 p.1 → change past p.0 p.1 ≡ Blocks m old.next
+      → Represents o past old → IsReply (channel o past) p.0 p.1 → change past p.0 p.1 ≡ Blocks m old.next_ticket
       → new ≡ record old {
-        blocked = old.blocked ++ record { ticket = old.next; message = m } ∷ [];
+        blocked = old.blocked ++ record { ticket = old.next_ticket; message = m } ∷ [];
         space = space;
-        sends = insert old.sends old.next (blocked_send signal);
-        next = old.next + 1;
+        sends = insert old.sends old.next_ticket (blocked_send signal);
+        next_ticket = old.next_ticket + 1;
       }
       → Represents o (p ∷ past) new
   blocks o past p old new m signal space h reply e is =
-      let b : Blocked T = record { ticket = old.next; message = m } in
-      let fit = fits_as o past p (Blocks m old.next) h.run reply e in
+      let b : Blocked T = record { ticket = old.next_ticket; message = m } in
+      let fit = fits_as o past p (Blocks m old.next_ticket) h.run reply e in
       let open_ : is_over past ≡ false = open_not_over past (let is_open = fit.0.0 in omega arith) in
-      let still_open = over_same past p (Blocks m old.next) e refl ∙ open_ in
-      represents_as o (p ∷ past) new _ is (represents_open o past p (Blocks m old.next) old _ h reply e still_open record {
+      let still_open = over_same past p (Blocks m old.next_ticket) e refl ∙ open_ in
+      represents_as o (p ∷ past) new _ is (represents_open o past p (Blocks m old.next_ticket) old _ h reply e still_open record {
         capacity_is = refl;
         greatest_is = greatest_kept h;
         queued = queued h;
-        line_is = line_blocks o past p m old.next h.run e h.next_is open_
-            ∙ ap (λ l. l ++ record { message = m; ticket = Some old.next } ∷ []) (line_is h)
+        line_is = line_blocks o past p m old.next_ticket h.run e h.next_is open_
+            ∙ ap (λ l. l ++ record { message = m; ticket = Some old.next_ticket } ∷ []) (line_is h)
             ∙ append_assoc (queued h) (offers_of old.blocked) _ ∙ ap (λ l. (queued h) ++ l) (sym (map_push _ old.blocked b));
         queue_is = h.queue_is;
         length_is = refl;

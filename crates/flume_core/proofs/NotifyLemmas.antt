@@ -10,7 +10,7 @@ use Rattle.flume_state.specs.declared.sends.LiveSend.{LiveSend}
 use Rattle.flume_model.specs.Log.{Log, Opening}
 use Rattle.flume_state.specs.Messages.{Blocked}
 use Rattle.flume_state.specs.Notices.{no_longer_due, due_now}
-use Rattle.flume_state.specs.Sends.{SendMap, changed, noticed_send, with_notice}
+use Rattle.flume_state.specs.Sends.{SendMap, with_send_changed, with_send_notice, with_notice}
 use Rattle.flume_state.specs.State.{State, bare}
 use Rattle.flume_core.specs.Represents.{Represents}
 use Rattle.flume_state.specs.Receivers.{EntryList, NamesReceiver}
@@ -28,21 +28,21 @@ module _ {S : Type 0} where
 
   -- keeps all marks
   pub same_marks_changed : (m : SendMap S) (k : ℕ) (f : LiveSend S → LiveSend S) → ((x : LiveSend S) → (f x).accepted ≡ x.accepted)
-      → SameMarks (changed m k f) m
+      → SameMarks (with_send_changed m k f) m
   same_marks_changed m k f keeps t = go (eqb t k) refl
     where
-      go : (b : Bool) → eqb t k ≡ b → mark (changed m k f) t ≡ mark m t
+      go : (b : Bool) → eqb t k ≡ b → mark (with_send_changed m k f) t ≡ mark m t
       go true e =
           let same : t ≡ k = eqb-true t k e in
           rw (same, get-changed_same m k f) (mark_kept f keeps (get m k))
       go false e = rw (get-changed_other m k f t (eqb-false t k e)) refl
 
   -- a changed notice keeps all marks
-  pub same_marks_noticed : (f : Notice S → Notice S) (m : SendMap S) (k : ℕ) → SameMarks (noticed_send f k m) m
+  pub same_marks_noticed : (f : Notice S → Notice S) (m : SendMap S) (k : ℕ) → SameMarks (with_send_notice f k m) m
   same_marks_noticed f m k t = same_marks_changed m k (with_notice f) (λ x. refl) t
 
   -- naming what is due keeps all marks
-  pub same_marks_named : (m n : SendMap S) (named : Option ℕ) → IfSome named (λ t. n ≡ noticed_send no_longer_due t m)
+  pub same_marks_named : (m n : SendMap S) (named : Option ℕ) → IfSome named (λ t. n ≡ with_send_notice no_longer_due t m)
       → IfNone named (n ≡ m)
       → SameMarks n m
   same_marks_named m n None some none t = rw none refl
@@ -53,7 +53,7 @@ module _ {T S : Type 0} where
   pub same_marks_due : (some : List (Blocked T)) (m : SendMap S) → SameMarks (with_all_due some m) m
   same_marks_due [] m t = refl
   same_marks_due (b ∷ some) m t =
-      same_marks_due some (noticed_send due_now b.ticket m) t ∙ same_marks_noticed due_now m b.ticket t
+      same_marks_due some (with_send_notice due_now b.ticket m) t ∙ same_marks_noticed due_now m b.ticket t
 
 module _ {T S : Type 0} where
   -- naming one receiver changes nothing that a log knows

@@ -16,7 +16,7 @@ use Rattle.flume_model.specs.Entries.{entry_of, without_ticket, again, after_lea
 use Rattle.flume_model.specs.Entries.{waiting_count}
 use Rattle.flume_model.specs.Parked.{LogEntry, entries}
 use Rattle.flume_state.specs.Notices.{due_now}
-use Rattle.flume_state.specs.Receivers.{new_receiver, noticed_receiver}
+use Rattle.flume_state.specs.Receivers.{new_receiver, with_receiver_notice}
 use Rattle.flume_state.specs.State.{State, offers_of, bare}
 use Rattle.flume_core.specs.Represents.{Represents}
 use Rattle.flume_state.specs.Effects.{without_receiver, after_withdrawal, with_peak}
@@ -89,27 +89,28 @@ module _ {T A S : Type 0} where
   -- a receiver parks
   pub parks : (o : Opening) (past : Log T A) (p : Step T × Reply T A) (old new : State T S) (kind : Kind) (signal : S)
       → Represents o past old
-      → IsReply (channel o past) p.0 p.1 → change past p.0 p.1 ≡ Parks old.next kind
-      → new ≡ with_peak (old.entries ++ new_receiver old.next kind signal ∷ []) (record old { next = old.next + 1 })
+      → IsReply (channel o past) p.0 p.1 → change past p.0 p.1 ≡ Parks old.next_ticket kind
+      → new ≡ with_peak (old.entries ++ new_receiver old.next_ticket kind signal ∷ []) (record old { next_ticket = old.next_ticket + 1 })
       → Represents o (p ∷ past) new
   parks o past p old new kind signal h reply e is =
-      let fit = fits_as o past p (Parks old.next kind) h.run reply e in
-      let es = old.entries ++ new_receiver old.next kind signal ∷ [] in
-      keeps_standing o past p (Parks old.next kind) old new old.sends es (max old.peak (waiting_count es)) (old.next + 1) h reply e refl
-      (over_same past p (Parks old.next kind) e refl ∙ open_not_over past (let is_open = fit.1 in omega arith)) is (λ t. refl)
-      (map_push bare old.entries (new_receiver old.next kind signal)) refl refl
+      let fit = fits_as o past p (Parks old.next_ticket kind) h.run reply e in
+      let es = old.entries ++ new_receiver old.next_ticket kind signal ∷ [] in
+      keeps_standing o past p (Parks old.next_ticket kind) old new old.sends es (max old.peak (waiting_count es))
+      (old.next_ticket + 1) h reply e refl
+      (over_same past p (Parks old.next_ticket kind) e refl ∙ open_not_over past (let is_open = fit.1 in omega arith)) is (λ t. refl)
+      (map_push bare old.entries (new_receiver old.next_ticket kind signal)) refl refl
 
   -- a receiver waits on, or again behind all others
   pub asks : (o : Opening) (past : Log T A) (p : Step T × Reply T A) (old new : State T S) (t : ℕ) (f : Notice S → Notice S)
       → Represents o past old
       → IsReply (channel o past) p.0 p.1 → change past p.0 p.1 ≡ Asks t
-      → new ≡ with_peak (again t (noticed_receiver f t old.entries)) old → Represents o (p ∷ past) new
+      → new ≡ with_peak (again t (with_receiver_notice f t old.entries)) old → Represents o (p ∷ past) new
   asks o past p old new t f h reply e is =
       let fit = fits_as o past p (Asks t) h.run reply e in
-      let es = again t (noticed_receiver f t old.entries) in
-      keeps_standing o past p (Asks t) old new old.sends es (max old.peak (waiting_count es)) old.next h reply e refl
+      let es = again t (with_receiver_notice f t old.entries) in
+      keeps_standing o past p (Asks t) old new old.sends es (max old.peak (waiting_count es)) old.next_ticket h reply e refl
       (over_same past p (Asks t) e refl ∙ entry_not_over o past t fit.0 h.run fit.1) is (λ q. refl)
-      (bare_again t (noticed_receiver f t old.entries) ∙ ap (again t) (bare_noticed f t old.entries)) refl (omega arith)
+      (bare_again t (with_receiver_notice f t old.entries) ∙ ap (again t) (bare_noticed f t old.entries)) refl (omega arith)
 
   -- a filled receiver leaves with its message
   pub collects : (o : Opening) (past : Log T A) (p : Step T × Reply T A) (old new : State T S) (t : ℕ) → Represents o past old
@@ -117,7 +118,7 @@ module _ {T A S : Type 0} where
   collects o past p old new t h reply e is =
       let fit = fits_as o past p (Collects t) h.run reply e in
       let es = without_ticket t old.entries in
-      keeps_standing o past p (Collects t) old new old.sends es old.peak old.next h reply e refl
+      keeps_standing o past p (Collects t) old new old.sends es old.peak old.next_ticket h reply e refl
       (over_same past p (Collects t) e refl ∙ entry_not_over o past t fit.0 h.run fit.2) is (λ q. refl) (bare_without t old.entries)
       (peak_kept h es (fewer_without t old.entries)) (omega arith)
 

@@ -10,7 +10,7 @@ use Rattle.flume_model.specs.declared.step.Step.{Step}
 use Rattle.flume_model.specs.declared.step.Reply.{Reply}
 use Rattle.flume_model.specs.Log.{Log, Opening, Offer, Change, change}
 use Rattle.flume_model.specs.Counts.{senders, receivers, senders_after, receivers_after, is_over}
-use Rattle.flume_model.specs.Line.{line, boundary, queue, boundary_after, capacity, capacity_after, greater}
+use Rattle.flume_model.specs.Line.{line, queue_len, queue, queue_len_after, capacity, capacity_after, greater}
 use Rattle.flume_model.specs.Line.{blocked, messages, tickets_issued, next_ticket, issues, spends, is_live}
 use Rattle.flume_model.specs.Channel.{channel, has_ticket}
 use Rattle.flume_model.specs.Replies.{IsReply, IsRun}
@@ -24,7 +24,7 @@ use Rattle.flume_core.specs.Represents.{Represents}
 use Rattle.flume_model.proofs.LawfulReplyLemmas.{Fits, fits}
 use Rattle.flume_model.proofs.order.LineStepLemmas.{line_over}
 use Rattle.flume_model.proofs.waits.WaitingOpenLemmas.{nothing_once_over}
-use Rattle.flume_core.proofs.ViewLemmas.{mark, status, queue_at_log, waiting_within, greatest_kept, nil_mapped, boundary_is}
+use Rattle.flume_core.proofs.ViewLemmas.{mark, status, queue_at_log, waiting_within, greatest_kept, nil_mapped, queue_len_is}
 
 -- what a ticket is, after a change that neither issues nor spends it
 pub still_live : (issued_ live spent : Bool) → issued_ ≡ false → spent ≡ false → (issued_ || (live && not spent)) ≡ live
@@ -87,13 +87,13 @@ pub record LeftBy {T A S : Type 0} (o : Opening) (past : Log T A) (p : Step T ×
   pub queued : List (Offer T)
   pub line_is : line (p ∷ past) ≡ queued ++ offers_of new.blocked
   pub queue_is : new.queue ≡ messages queued
-  pub length_is : length new.queue ≡ boundary_after new.capacity (length (line (p ∷ past))) (length old.queue) done
+  pub length_is : length new.queue ≡ queue_len_after new.capacity (length (line (p ∷ past))) (length old.queue) done
   pub marks : (t : ℕ) → mark new.sends t
       ≡ status (issues done t || (is_live past t && not (spends done t))) (has_ticket t (offers_of new.blocked))
   pub entries_are : map bare new.entries
       ≡ entries_after old.queue (not (is_closed_after past) && is_closed_after (p ∷ past)) (map bare old.entries) done
   pub peak_is : new.peak ≡ max old.peak (waiting_count new.entries)
-  pub next_is : new.next ≡ old.next + tickets_issued done
+  pub next_is : new.next_ticket ≡ old.next_ticket + tickets_issued done
   pub senders_are : new.senders ≡ senders_after old.senders done
   pub receivers_are : new.receivers ≡ receivers_after old.receivers done
 
@@ -111,16 +111,16 @@ module _ {T A S : Type 0} where
       let closes = not (is_closed_after past) && is_closed_after (p ∷ past) in
       let in_force : new.capacity ≡ capacity o (p ∷ past) =
       by.capacity_is ∙ ap (λ c. capacity_after c done) h.capacity_is ∙ sym (ap (capacity_after (capacity o past)) e) in
-      let counted : length new.queue ≡ boundary o (p ∷ past) =
-      by.length_is ∙ ap₂ (λ c n. boundary_after c (length (line (p ∷ past))) n done) in_force (boundary_is h)
+      let counted : length new.queue ≡ queue_len o (p ∷ past) =
+      by.length_is ∙ ap₂ (λ c n. queue_len_after c (length (line (p ∷ past))) n done) in_force (queue_len_is h)
       ∙ sym (cond-false (is_over (p ∷ past)) 0 _ open_
-      ∙ ap (boundary_after (capacity o (p ∷ past)) (length (line (p ∷ past))) (boundary o past)) e) in
-      let long : length by.queued ≡ boundary o (p ∷ past) =
+      ∙ ap (queue_len_after (capacity o (p ∷ past)) (length (line (p ∷ past))) (queue_len o past)) e) in
+      let long : length by.queued ≡ queue_len o (p ∷ past) =
       sym (ap length by.queue_is ∙ length-map by.queued (λ offer. offer.message)) ∙ counted in
-      let front : take (boundary o (p ∷ past)) (line (p ∷ past)) ≡ by.queued =
-      ap (take (boundary o (p ∷ past))) by.line_is ∙ take_at by.queued (offers_of new.blocked) (boundary o (p ∷ past)) long in
+      let front : take (queue_len o (p ∷ past)) (line (p ∷ past)) ≡ by.queued =
+      ap (take (queue_len o (p ∷ past))) by.line_is ∙ take_at by.queued (offers_of new.blocked) (queue_len o (p ∷ past)) long in
       let waiting : blocked o (p ∷ past) ≡ offers_of new.blocked =
-      ap (drop (boundary o (p ∷ past))) by.line_is ∙ drop_at by.queued (offers_of new.blocked) (boundary o (p ∷ past)) long in
+      ap (drop (queue_len o (p ∷ past))) by.line_is ∙ drop_at by.queued (offers_of new.blocked) (queue_len o (p ∷ past)) long in
       let entered : map bare new.entries ≡ entries o (p ∷ past) =
       by.entries_are ∙ sym (cond-false (is_over (p ∷ past)) [] _ open_
       ∙ ap (entries_after (queue o past) closes (entries o past)) e
@@ -149,7 +149,7 @@ module _ {T A S : Type 0} where
       → ((c : Option ℕ) → capacity_after c done ≡ c)
       → new.capacity ≡ old.capacity → new.greatest ≡ old.greatest → new.queue ≡ [] → new.blocked ≡ []
       → ((t : ℕ) → mark new.sends t ≡ None) → new.entries ≡ [] → new.peak ≡ old.peak
-      → new.next ≡ old.next + tickets_issued done → new.senders ≡ senders_after old.senders done
+      → new.next_ticket ≡ old.next_ticket + tickets_issued done → new.senders ≡ senders_after old.senders done
       → new.receivers ≡ receivers_after old.receivers done
       → Represents o (p ∷ past) new
   represents_over o past p done old new h reply e over keeps same_capacity same_greatest no_queue no_blocked no_sends no_entries same_peak
@@ -161,10 +161,10 @@ module _ {T A S : Type 0} where
         run = (reply, h.run);
         capacity_is = in_force;
         greatest_is = same_greatest ∙ greatest_kept h ∙ ap₂ greater h.greatest_is (sym same_capacity ∙ in_force);
-        queue_is = no_queue ∙ sym (ap (λ l. messages (take (boundary o (p ∷ past)) l)) (line_over (p ∷ past) over)
-            ∙ ap messages (take-nil (boundary o (p ∷ past))));
-        blocked_are = ap offers_of no_blocked ∙ sym (ap (drop (boundary o (p ∷ past))) (line_over (p ∷ past) over)
-            ∙ drop-nil (boundary o (p ∷ past)));
+        queue_is = no_queue ∙ sym (ap (λ l. messages (take (queue_len o (p ∷ past)) l)) (line_over (p ∷ past) over)
+            ∙ ap messages (take-nil (queue_len o (p ∷ past))));
+        blocked_are = ap offers_of no_blocked ∙ sym (ap (drop (queue_len o (p ∷ past))) (line_over (p ∷ past) over)
+            ∙ drop-nil (queue_len o (p ∷ past)));
         sends_are = λ t. no_sends t ∙ sym (ap (λ b. status b (has_ticket t (blocked o (p ∷ past)))) (none_live (p ∷ past) t over));
         entries_are = ap (map bare) no_entries ∙ sym (cond-true (is_over (p ∷ past)) [] _ over);
         peak_is =

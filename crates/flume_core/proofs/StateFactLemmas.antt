@@ -16,11 +16,11 @@ use Rattle.flume_model.specs.Parked.{entries}
 use Rattle.flume_model.specs.Channel.{has_ticket}
 use Rattle.flume_state.specs.Messages.{Blocked}
 use Rattle.flume_model.specs.Laws.{Rising}
-use Rattle.flume_model.specs.WaitLaws.{Apart, block_woken}
+use Rattle.flume_model.specs.WaitLaws.{DistinctTickets, block_woken}
 use Rattle.flume_state.specs.State.{State, accepted_at, offers_of, bare}
 use Rattle.flume_core.specs.Represents.{Represents}
 use Rattle.flume_core.specs.StateFacts.{SendersBlockAtCapacity, ReceiversWaitWhileOpen, WokenCoverQueued}
-use Rattle.flume_core.specs.StateFacts.{QueuedAndWaitingAreBounded, ReceiverTicketsApart, SendTicketsApart, BlockedTicketsRise}
+use Rattle.flume_core.specs.StateFacts.{QueuedAndWaitingAreBounded, ReceiverTicketsDistinct, SendTicketsApart, BlockedTicketsRise}
 use Rattle.flume_core.specs.StateFacts.{BlockedSendsAreLive, AcceptedBeforeBlocked, EmptyOnceOver}
 use Rattle.flume_core.specs.StateFacts.{BlockingWokenByClosing, ChannelFacts, NobodyIsStuck}
 use Rattle.flume_core.proofs.BareEntryLemmas.{bare_waiting, bare_entry}
@@ -32,7 +32,7 @@ use Rattle.flume_model.proofs.order.TicketLemmas.{accepted_below_blocked}
 use Rattle.flume_model.proofs.waits.WaitingLaws.{covered, bounded, waits_while_open, woken_block_while_closed, nothing_once_over}
 use Rattle.flume_model.proofs.waits.WaitingLaws.{entries_apart, sides_apart, nobody_stuck}
 use Rattle.flume_core.proofs.ViewLemmas.{at_capacity, none_blocked_waiting, waiting_at_log, entry_at_log, blocked_is, nil_by, status}
-use Rattle.flume_core.proofs.ViewLemmas.{line_length, none_mapped, nil_mapped, live_by, boundary_is, line_is, queued}
+use Rattle.flume_core.proofs.ViewLemmas.{line_length, none_mapped, nil_mapped, live_by, queue_len_is, line_is, queued}
 
 module _ {T N : Type 0} where
   -- how many are woken
@@ -46,7 +46,7 @@ module _ {T N : Type 0} where
   bare_block_woken (e ∷ es) = simp (bare_block_woken es) refl
 
   -- tickets that are apart
-  bare_apart : (n : ℕ) (es : List (Entry T N)) → Apart n (map bare es) → Apart n es
+  bare_apart : (n : ℕ) (es : List (Entry T N)) → DistinctTickets n (map bare es) → DistinctTickets n es
   bare_apart n [] h = tt
   bare_apart n (e ∷ es) h = (h.0, none_mapped bare (entry_of e.ticket es) (sym (bare_entry e.ticket es) ∙ h.1), bare_apart n es h.2)
 
@@ -83,7 +83,7 @@ module _ {T A S : Type 0} where
   -- while a receiver waits as many are woken as messages are queued
   pub woken_cover : (o : Opening) (log : Log T A) (s : State T S) → Represents o log s → WokenCoverQueued s
   woken_cover o log s h some =
-      subst₂ (λ a b. a ≤ b) (sym (boundary_is h)) (sym (ap woken_count h.entries_are) ∙ bare_woken s.entries)
+      subst₂ (λ a b. a ≤ b) (sym (queue_len_is h)) (sym (ap woken_count h.entries_are) ∙ bare_woken s.entries)
       (covered o log h.run (waiting_at_log h ∙ some))
 
   -- queued messages and waiting receivers are bounded
@@ -91,10 +91,10 @@ module _ {T A S : Type 0} where
   queued_bounded o log s h =
       let waiting : waiting_count (entries o log) ≡ waiting_count s.entries =
       sym (ap waiting_count h.entries_are) ∙ bare_waiting s.entries in
-      rw (h.greatest_is, h.peak_is, (boundary_is h), sym waiting) (bounded o log h.run)
+      rw (h.greatest_is, h.peak_is, (queue_len_is h), sym waiting) (bounded o log h.run)
 
   -- the tickets of parked receivers are apart
-  pub receivers_apart : (o : Opening) (log : Log T A) (s : State T S) → Represents o log s → ReceiverTicketsApart s
+  pub receivers_apart : (o : Opening) (log : Log T A) (s : State T S) → Represents o log s → ReceiverTicketsDistinct s
   receivers_apart o log s h =
       rw h.next_is (bare_apart (next_ticket o log) s.entries (rw h.entries_are (entries_apart o log h.run)))
 
@@ -172,7 +172,7 @@ module _ {T A S : Type 0} where
   nobody_is_stuck o log s h none =
       let law = nobody_stuck o log h.run (ap woken_count (sym h.entries_are) ∙ bare_woken s.entries ∙ none) in
       let long = line_length h in
-      let queued = boundary_is h in
+      let queued = queue_len_is h in
       record {
         waiting_receivers = λ some.
             let open_line = law.waiting_receivers (waiting_at_log h ∙ some) in

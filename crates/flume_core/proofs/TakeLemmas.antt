@@ -14,10 +14,10 @@ use Rattle.flume_model.specs.Channel.{channel, has_ticket}
 use Rattle.flume_model.specs.Replies.{IsReply}
 use Rattle.flume_model.specs.Limits.{HasRoom, IsAtCapacity, is_full}
 use Rattle.flume_state.specs.Messages.{Blocked}
-use Rattle.flume_state.specs.Sends.{changed, accepted_now}
+use Rattle.flume_state.specs.Sends.{with_send_changed, accepted_now}
 use Rattle.flume_state.specs.State.{State, offers_of, bare}
 use Rattle.flume_core.specs.Represents.{Represents}
-use Rattle.flume_state.specs.Effects.{after_admission, after_admission_of, after_refill, with_front}
+use Rattle.flume_state.specs.Effects.{after_admission, after_admission_of, after_admission_if_room, with_front}
 use Rattle.flume_state.specs.Effects.{with_front_of, after_take as taken_state}
 use Rattle.flume_model.specs.declared.entry.Entry.{Entry}
 use Rattle.flume_model.specs.Entries.{waiting_count, without_ticket}
@@ -86,7 +86,7 @@ module _ {T A S : Type 0} where
       → line past ≡ x ∷ (queued ++ offers_of new.blocked) → new.queue ≡ messages queued
       → length new.queue ≡ max (length old.queue - 1) (capped old.capacity (length queued + length new.blocked))
       → ((t : ℕ) → mark new.sends t ≡ status (is_live past t && true) (has_ticket t (offers_of new.blocked)))
-      → new.capacity ≡ old.capacity → new.greatest ≡ old.greatest → new.next ≡ old.next → new.senders ≡ old.senders
+      → new.capacity ≡ old.capacity → new.greatest ≡ old.greatest → new.next_ticket ≡ old.next_ticket → new.senders ≡ old.senders
       → new.receivers ≡ old.receivers
       → new.entries ≡ released receiver old.entries → new.peak ≡ old.peak → Represents o (p ∷ past) new
   taken o past p old new m receiver x queued h reply e at queue long marks same_capacity same_greatest same_next same_senders
@@ -150,7 +150,7 @@ module _ {T A S : Type 0} where
       → new ≡ record old {
         queue = rest ++ b.message ∷ [];
         blocked = later;
-        sends = changed old.sends b.ticket accepted_now;
+        sends = with_send_changed old.sends b.ticket accepted_now;
         entries = released receiver old.entries;
       }
       → HasRoom old.capacity (length rest) → Represents o (p ∷ past) new
@@ -179,7 +179,7 @@ module _ {T A S : Type 0} where
       → new ≡ record old {
         queue = [];
         blocked = later;
-        sends = changed old.sends b.ticket accepted_now;
+        sends = with_send_changed old.sends b.ticket accepted_now;
         entries = released receiver old.entries;
       }
       → Represents o (p ∷ past) new
@@ -200,7 +200,7 @@ module _ {T A S : Type 0} where
   takes_queued : (o : Opening) (past : Log T A) (p : Step T × Reply T A) (old new : State T S) (m : T) (receiver : Option ℕ) (rest : List T)
       → Represents o past old
       → IsReply (channel o past) p.0 p.1 → change past p.0 p.1 ≡ Takes m receiver → old.queue ≡ m ∷ rest
-      → new ≡ freed receiver (after_refill (record old { queue = rest })) → Represents o (p ∷ past) new
+      → new ≡ freed receiver (after_admission_if_room (record old { queue = rest })) → Represents o (p ∷ past) new
   takes_queued o past p old new m receiver rest h reply e front is = by_case (full_or_room old.capacity (length rest)) old.blocked refl
     where
       left : State T S
@@ -232,13 +232,14 @@ module _ {T A S : Type 0} where
       by_queue : (q : List T) (xs : List (Blocked T)) → old.queue ≡ q → old.blocked ≡ xs → Represents o (p ∷ past) new
       by_queue (m' ∷ rest') xs queue at =
           takes_queued o past p old new m receiver rest h reply e (sym (ap (λ q. (with_front_of q old).queue) queue) ∙ front)
-          (is ∙ ap (λ q. freed receiver (after_refill (record (with_front_of q old) { queue = rest }))) queue)
+          (is ∙ ap (λ q. freed receiver (after_admission_if_room (record (with_front_of q old) { queue = rest }))) queue)
       by_queue [] [] queue at =
           let nothing : (after_admission_of [] old).queue ≡ m ∷ rest =
           sym (ap (λ q. (with_front_of q old).queue) queue ∙ ap (λ xs. (after_admission_of xs old).queue) at) ∙ front in
           absurd (let none : ⊥ = cc in none)
       by_queue [] (b ∷ later) queue at =
-          let left : List T → State T S = λ r. record old { queue = r; blocked = later; sends = changed old.sends b.ticket accepted_now } in
+          let left : List T → State T S = λ r. record old
+          { queue = r; blocked = later; sends = with_send_changed old.sends b.ticket accepted_now } in
           let one : old.queue ++ b.message ∷ [] ≡ m ∷ rest =
           sym (ap (λ q. (with_front_of q old).queue) queue ∙ ap (λ xs. (after_admission_of xs old).queue) at) ∙ front in
           let only : b.message ∷ [] ≡ m ∷ rest = sym (ap (λ q. q ++ b.message ∷ []) queue) ∙ one in
@@ -247,7 +248,7 @@ module _ {T A S : Type 0} where
           let waits : length old.blocked ≡ suc (length later) = ap length at in
           let full : IsAtCapacity old.capacity 0 = subst (IsAtCapacity old.capacity) zero_long (at_capacity h (omega arith)) in
           takes_direct o past p old new m receiver b later h reply e queue at
-          (is ∙ ap (λ q. freed receiver (after_refill (record (with_front_of q old) { queue = rest }))) queue
-          ∙ ap (λ xs. freed receiver (after_refill (record (after_admission_of xs old) { queue = rest }))) at
-          ∙ ap (λ r. freed receiver (after_refill (left r))) empty
+          (is ∙ ap (λ q. freed receiver (after_admission_if_room (record (with_front_of q old) { queue = rest }))) queue
+          ∙ ap (λ xs. freed receiver (after_admission_if_room (record (after_admission_of xs old) { queue = rest }))) at
+          ∙ ap (λ r. freed receiver (after_admission_if_room (left r))) empty
           ∙ ap (λ c. freed receiver (if not c then after_admission (left []) else left [])) (full_known old.capacity 0 full))

@@ -6,7 +6,7 @@ use Rattle.flume_model.specs.declared.step.Reply.{Reply}
 use Rattle.flume_model.specs.declared.step.Reply.TheVariants.{Sent, Full, Closed, NoMemory, Spent, Got, Empty, Ended}
 use Rattle.flume_model.specs.declared.step.Kind.{Kind}
 use Rattle.flume_model.specs.Log.{Log, Opening, change}
-use Rattle.flume_model.specs.Line.{capacity, boundary}
+use Rattle.flume_model.specs.Line.{capacity, queue_len}
 use Rattle.flume_model.specs.Channel.{channel}
 use Rattle.flume_model.specs.Replies.{IsReply}
 use Rattle.flume_state.specs.State.{State}
@@ -39,7 +39,7 @@ module _ {T A S : Type 0} where
   send_as_try o log m (Closed back) s h differs = represents_by o log _ _ s refl h.run.0 h
   send_as_try o log m (NoMemory back) s h differs =
       represents_by o log _ _ s refl
-      (h.run.0.0.0, (λ none_in. absurd (room_or_full (capacity o log) (boundary o log) (h.run.0.0.1 none_in.1) none_in.2)), h.run.0.1) h
+      (h.run.0.0.0, (λ none_in. absurd (room_or_full (capacity o log) (queue_len o log) (h.run.0.0.1 none_in.1) none_in.2)), h.run.0.1) h
   send_as_try o log m (Full back) s h differs = absurd (differs back refl)
   send_as_try o log m _ s h differs = absurd h.run.0
 

@@ -4,7 +4,7 @@ use Rattle.std.specs.Prelude.{IfSome}
 use Rattle.flume_state.specs.Messages.{Messages}
 use Rattle.flume_state.specs.State.{State}
 use Rattle.flume_core.proofs.ViewLemmas.{nil_by}
-use Rattle.flume_state.specs.Effects.{after_admission, after_admission_of, after_refill, with_front, with_front_of, after_take}
+use Rattle.flume_state.specs.Effects.{after_admission, after_admission_of, after_admission_if_room, with_front, with_front_of, after_take}
 
 -- one value, whichever way it is chosen
 either : {X : Type 0} (b : Bool) (x y : X) → x ≡ y → (if b then x else y) ≡ y
@@ -27,7 +27,7 @@ module _ {T S : Type 0} where
   -- a take leaves the rest of the queue
   pub taken_alone : (rest : List T) (s : State T S) → s.blocked ≡ [] → after_take rest s ≡ record s { queue = rest }
   taken_alone rest s none =
-      ap (λ f. after_refill (record f { queue = rest })) (fronted_alone s none)
+      ap (λ f. after_admission_if_room (record f { queue = rest })) (fronted_alone s none)
       ∙ either _ _ _ (admits_none (record s { queue = rest }) none)
 
   -- the front of the queue goes out, and leaves what a take leaves

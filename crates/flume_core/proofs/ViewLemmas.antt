@@ -9,7 +9,7 @@ use Rattle.std.proofs.lemmas.List.{length-map, length-take-le, map-append, take-
 use Rattle.std.proofs.lemmas.List.Elements.{All-head, All-tail}
 use Rattle.flume_model.specs.Log.{Log, Opening, Offer}
 use Rattle.flume_model.specs.Counts.{senders, receivers}
-use Rattle.flume_model.specs.Line.{line, capacity, greatest, greater, boundary, queue, blocked, messages, is_live}
+use Rattle.flume_model.specs.Line.{line, capacity, greatest, greater, queue_len, queue, blocked, messages, is_live}
 use Rattle.flume_model.specs.Entries.{some_wait, waiting_count, entry_of}
 use Rattle.flume_model.specs.Parked.{entries, peak}
 use Rattle.flume_model.specs.Channel.{IsBlocked, channel, has_ticket}
@@ -107,23 +107,23 @@ module _ {T A : Type 0} where
 module _ {T A S : Type 0} where
   -- the queued offers
   abbrev pub queued : {o : Opening} {log : Log T A} {s : State T S} → Represents o log s → List (Offer T)
-  queued {o} {log} {s} h = take (boundary o log) (line log)
+  queued {o} {log} {s} h = take (queue_len o log) (line log)
 
-  -- as many offers are queued as the boundary says
-  many_queued : {o : Opening} {log : Log T A} {s : State T S} (h : Represents o log s) → length (queued h) ≡ boundary o log
-  many_queued {o} {log} {s} h = length-take-le (boundary o log) (line log) (shape_of o log h.run).within
+  -- as many offers are queued as the queue_len says
+  many_queued : {o : Opening} {log : Log T A} {s : State T S} (h : Represents o log s) → length (queued h) ≡ queue_len o log
+  many_queued {o} {log} {s} h = length-take-le (queue_len o log) (line log) (shape_of o log h.run).within
 
   -- as many offers are queued as messages
   pub queued_length : {o : Opening} {log : Log T A} {s : State T S} (h : Represents o log s) → length (queued h) ≡ length s.queue
   queued_length {o} {log} {s} h = sym (ap length h.queue_is ∙ length-map (queued h) (λ offer. offer.message))
 
-  -- and as many messages as the boundary says
-  pub boundary_is : {o : Opening} {log : Log T A} {s : State T S} → Represents o log s → length s.queue ≡ boundary o log
-  boundary_is {o} {log} {s} h = sym (queued_length h) ∙ many_queued h
+  -- and as many messages as the queue_len says
+  pub queue_len_is : {o : Opening} {log : Log T A} {s : State T S} → Represents o log s → length s.queue ≡ queue_len o log
+  queue_len_is {o} {log} {s} h = sym (queued_length h) ∙ many_queued h
 
   -- the queued offers, and behind them the blocked ones, are the line
   pub line_is : {o : Opening} {log : Log T A} {s : State T S} (h : Represents o log s) → line log ≡ queued h ++ offers_of s.blocked
-  line_is {o} {log} {s} h = sym (take-append-drop (boundary o log) (line log)) ∙ ap (λ l. queued h ++ l) (sym h.blocked_are)
+  line_is {o} {log} {s} h = sym (take-append-drop (queue_len o log) (line log)) ∙ ap (λ l. queued h ++ l) (sym h.blocked_are)
 
   -- the blocked offers
   pub blocked_is : {o : Opening} {log : Log T A} {s : State T S} → Represents o log s → blocked o log ≡ offers_of s.blocked
@@ -156,20 +156,20 @@ module _ {T A S : Type 0} where
       → IsAtCapacity s.capacity (length s.queue)
   at_capacity {o} {log} {s} h some =
       let long = line_length h in
-      let n = boundary_is h in
-      rw (h.capacity_is, (boundary_is h)) (blocked_at_capacity o log h.run (omega arith))
+      let n = queue_len_is h in
+      rw (h.capacity_is, (queue_len_is h)) (blocked_at_capacity o log h.run (omega arith))
 
   -- the queued messages
   pub queue_at_log : {o : Opening} {log : Log T A} {s : State T S} → Represents o log s → queue o log ≡ s.queue
   queue_at_log {o} {log} {s} h = sym h.queue_is
 
   -- if a message is queued, the log queues one
-  pub some_queued : {o : Opening} {log : Log T A} {s : State T S} → Represents o log s → s.queue ≢ [] → 0 < boundary o log
+  pub some_queued : {o : Opening} {log : Log T A} {s : State T S} → Represents o log s → s.queue ≢ [] → 0 < queue_len o log
   some_queued {o} {log} {s} h some = go s.queue refl
     where
-      go : (q : List T) → s.queue ≡ q → 0 < boundary o log
+      go : (q : List T) → s.queue ≡ q → 0 < queue_len o log
       go [] e = absurd (some e)
-      go (m ∷ q) e = let long = ap length e in let n = boundary_is h in omega arith
+      go (m ∷ q) e = let long = ap length e in let n = queue_len_is h in omega arith
 
   -- whether some receiver waits
   pub waiting_at_log : {o : Opening} {log : Log T A} {s : State T S} → Represents o log s → some_wait (entries o log) ≡ some_wait s.entries
@@ -198,7 +198,7 @@ module _ {T A S : Type 0} where
       → s.blocked ≡ []
   none_blocked_waiting {o} {log} {s} h some =
       let long = line_length h in
-      let n = boundary_is h in
+      let n = queue_len_is h in
       let whole = waits_whole o log h.run (waiting_at_log h ∙ some) in
       nil_by s.blocked (λ more. omega arith)
 
@@ -226,15 +226,15 @@ module _ {T A S : Type 0} where
 
   -- a queue with room has room in the log
   pub room_at_log : {o : Opening} {log : Log T A} {s : State T S} → Represents o log s
-      → HasRoom s.capacity (length s.queue) → HasRoom (capacity o log) (boundary o log)
-  room_at_log {o} {log} {s} h is = subst₂ HasRoom h.capacity_is (boundary_is h) is
+      → HasRoom s.capacity (length s.queue) → HasRoom (capacity o log) (queue_len o log)
+  room_at_log {o} {log} {s} h is = subst₂ HasRoom h.capacity_is (queue_len_is h) is
 
   -- if the queue has room in the log it has room
   pub room_at_state : {o : Opening} {log : Log T A} {s : State T S} → Represents o log s
-      → HasRoom (capacity o log) (boundary o log) → HasRoom s.capacity (length s.queue)
-  room_at_state {o} {log} {s} h is = subst₂ HasRoom (sym h.capacity_is) (sym (boundary_is h)) is
+      → HasRoom (capacity o log) (queue_len o log) → HasRoom s.capacity (length s.queue)
+  room_at_state {o} {log} {s} h is = subst₂ HasRoom (sym h.capacity_is) (sym (queue_len_is h)) is
 
   -- a queue at capacity is at capacity in the log
   pub full_at_log : {o : Opening} {log : Log T A} {s : State T S} → Represents o log s
-      → IsAtCapacity s.capacity (length s.queue) → IsAtCapacity (capacity o log) (boundary o log)
-  full_at_log {o} {log} {s} h is = subst₂ IsAtCapacity h.capacity_is (boundary_is h) is
+      → IsAtCapacity s.capacity (length s.queue) → IsAtCapacity (capacity o log) (queue_len o log)
+  full_at_log {o} {log} {s} h is = subst₂ IsAtCapacity h.capacity_is (queue_len_is h) is

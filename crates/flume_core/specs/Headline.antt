@@ -3,7 +3,7 @@ use Rattle.std.specs.Prelude.{◌≡◌, false, drop, take}
 use Rattle.flume_model.specs.Log.{Log, Opening}
 use Rattle.flume_model.specs.Offers.{kept, hand_outs}
 use Rattle.flume_model.specs.Counts.{is_over}
-use Rattle.flume_model.specs.Line.{boundary, messages}
+use Rattle.flume_model.specs.Line.{queue_len, messages}
 use Rattle.flume_model.specs.Replies.{IsRun}
 use Rattle.flume_model.specs.Laws.{InOrder}
 use Rattle.flume_model.specs.Beginnings.{IsBeginning}
@@ -18,10 +18,10 @@ module _ {T A S : Type 0} where
     pub in_order : InOrder s.entries log
     -- the queued messages are those of the offers that come next
     pub queue_is_front :
-        s.queue ≡ messages (take (boundary opening log) (drop (hand_outs log) (kept log)))
+        s.queue ≡ messages (take (queue_len opening log) (drop (hand_outs log) (kept log)))
     -- the blocked ones are the rest of these offers, unless both sides have disconnected
     pub blocked_are_rest : is_over log ≡ false
-        → offers_of s.blocked ≡ drop (boundary opening log) (drop (hand_outs log) (kept log))
+        → offers_of s.blocked ≡ drop (queue_len opening log) (drop (hand_outs log) (kept log))
     pub replies_lawful : IsRun opening log
     pub woken_cover : WokenCoverQueued s
     pub queue_bounded : QueuedAndWaitingAreBounded s

@@ -1,7 +1,7 @@
 pub mod Represents
 pub mod PossibleReply
 pub mod Waiting
-pub mod Wanting
+pub mod NoMemoryRule
 pub mod Transitions
 pub mod StateFacts
 pub mod Headline

@@ -6,14 +6,14 @@ use Rattle.flume_model.specs.declared.step.Step.TheVariants.{TryRecv, Recv, Poll
 use Rattle.flume_model.specs.declared.step.Step.TheVariants.{CloneSender, CloneReceiver, DropSender}
 use Rattle.flume_model.specs.declared.step.Step.TheVariants.{DropReceiver, SetCapacity, Len}
 use Rattle.flume_model.specs.declared.step.Step.TheVariants.{IsEmpty, IsFull}
-use Rattle.flume_model.specs.declared.step.Step.TheVariants.{Capacity as AskCapacity, SenderCount}
+use Rattle.flume_model.specs.declared.step.Step.TheVariants.{Capacity as CapacityQuery, SenderCount}
 use Rattle.flume_model.specs.declared.step.Step.TheVariants.{ReceiverCount, IsDisconnected}
 use Rattle.flume_model.specs.declared.step.Reply.{Reply}
 use Rattle.flume_model.specs.declared.step.Reply.TheVariants.{Sent, Full, Closed, NoMemory, Spent}
 use Rattle.flume_model.specs.declared.step.Reply.TheVariants.{Pending, Accepted, Waiting, Returned}
 use Rattle.flume_model.specs.declared.step.Reply.TheVariants.{NoTicket, Got, Empty, Ended, Parked}
 use Rattle.flume_model.specs.declared.step.Reply.TheVariants.{Gone, Drained, Done, NoEnd, CountFull}
-use Rattle.flume_model.specs.declared.step.Reply.TheVariants.{Number, Truth, Capacity, Unbounded}
+use Rattle.flume_model.specs.declared.step.Reply.TheVariants.{Number, Flag, Capacity, Unbounded}
 
 module _ {T A : Type 0} where
   -- the replies that a step may have: a refusal hands back the offer's own message, or none
@@ -65,10 +65,10 @@ module _ {T A : Type 0} where
   PossibleReply (SetCapacity n) Ended = Unit {0}
   PossibleReply (SetCapacity n) Unbounded = Unit {0}
   PossibleReply Len (Number n) = Unit {0}
-  PossibleReply IsEmpty (Truth b) = Unit {0}
-  PossibleReply IsFull (Truth b) = Unit {0}
-  PossibleReply AskCapacity (Capacity n) = Unit {0}
+  PossibleReply IsEmpty (Flag b) = Unit {0}
+  PossibleReply IsFull (Flag b) = Unit {0}
+  PossibleReply CapacityQuery (Capacity n) = Unit {0}
   PossibleReply SenderCount (Number n) = Unit {0}
   PossibleReply ReceiverCount (Number n) = Unit {0}
-  PossibleReply IsDisconnected (Truth b) = Unit {0}
+  PossibleReply IsDisconnected (Flag b) = Unit {0}
   PossibleReply _ _ = ⊥

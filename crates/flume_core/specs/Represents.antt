@@ -33,7 +33,7 @@ module _ {T A : Type 0} where
     pub sends_are : (t : ℕ) → accepted_at s t ≡ send_status opening log t
     pub entries_are : map bare s.entries ≡ entries opening log
     pub peak_is : s.peak ≡ peak opening log
-    pub next_is : s.next ≡ next_ticket opening log
+    pub next_is : s.next_ticket ≡ next_ticket opening log
     pub senders_are : s.senders ≡ senders log
     pub receivers_are : s.receivers ≡ receivers log
 

@@ -5,7 +5,7 @@ use Rattle.std.specs.FinMap.{get}
 use Rattle.flume_model.specs.Limits.{IsAtCapacity, IsOpen, IsClosed}
 use Rattle.flume_model.specs.Entries.{some_wait, waiting_count, woken_count, entry_of}
 use Rattle.flume_model.specs.Laws.{Rising}
-use Rattle.flume_model.specs.WaitLaws.{IsWithinCapacity, Apart, block_woken}
+use Rattle.flume_model.specs.WaitLaws.{IsWithinCapacity, DistinctTickets, block_woken}
 use Rattle.flume_state.specs.State.{State, accepted_at, offers_of}
 
 module _ {T S : Type 0} where
@@ -30,18 +30,18 @@ module _ {T S : Type 0} where
       IsWithinCapacity s.greatest s.peak (length s.queue + waiting_count s.entries)
 
   -- the tickets of parked receivers are below the next one, and each is another
-  abbrev pub ReceiverTicketsApart : State T S → Type 0
-  ReceiverTicketsApart s = Apart s.next s.entries
+  abbrev pub ReceiverTicketsDistinct : State T S → Type 0
+  ReceiverTicketsDistinct s = DistinctTickets s.next_ticket s.entries
 
   -- the ticket of a live send is below the next one, and no parked receiver has it
   abbrev pub SendTicketsApart : State T S → Type 0
   SendTicketsApart s =
       (t : ℕ) (accepted : Bool) → accepted_at s t ≡ Some accepted
-      → (t < s.next) × (entry_of t s.entries ≡ None)
+      → (t < s.next_ticket) × (entry_of t s.entries ≡ None)
 
   -- the tickets of blocked messages rise, and are below the next one
   abbrev pub BlockedTicketsRise : State T S → Type 0
-  BlockedTicketsRise s = Rising s.next (offers_of s.blocked)
+  BlockedTicketsRise s = Rising s.next_ticket (offers_of s.blocked)
 
   -- each blocked message is that of a live send, which wasn't accepted
   abbrev pub BlockedSendsAreLive : State T S → Type 0
@@ -78,7 +78,7 @@ module _ {T S : Type 0} where
     pub receivers_wait_while_open : ReceiversWaitWhileOpen s
     pub woken_cover_queued : WokenCoverQueued s
     pub queued_and_waiting_are_bounded : QueuedAndWaitingAreBounded s
-    pub receiver_tickets_are_apart : ReceiverTicketsApart s
+    pub receiver_tickets_are_apart : ReceiverTicketsDistinct s
     pub send_tickets_are_apart : SendTicketsApart s
     pub blocked_tickets_rise : BlockedTicketsRise s
     pub blocked_sends_are_live : BlockedSendsAreLive s

@@ -7,7 +7,7 @@ use Rattle.flume_state.specs.Due.{BecomesDue}
 use Rattle.flume_state.specs.State.{State}
 use Rattle.flume_core.specs.Represents.{Extends, IsReachable, ChangesNothing}
 use Rattle.flume_core.specs.PossibleReply.{PossibleReply}
-use Rattle.flume_core.specs.Wanting.{ChanMayAllocate}
+use Rattle.flume_core.specs.NoMemoryRule.{ChanMayAllocate}
 
 module _ {T A S : Type 0} where
   -- a step, answered so, leads from the old state to the new one: all that `Chan::step` says of it

@@ -6,16 +6,16 @@ ghost use Rattle.flume_state.specs.State.{State, new_state};
 ghost use Rattle.flume_core.specs.Represents.{Represents, Extends, ChangesNothing, IsReachable};
 ghost use Rattle.flume_state.specs.Due.{BecomesDue};
 ghost use Rattle.flume_core.specs.PossibleReply.{PossibleReply};
-ghost use Rattle.flume_core.specs.Wanting.{ChanMayAllocate};
+ghost use Rattle.flume_core.specs.NoMemoryRule.{ChanMayAllocate};
 
 mod capacity;
 mod ends;
+mod no_memory;
 mod parked;
 mod queries;
 mod receive;
 mod send;
 mod waiting;
-mod wanting;
 
 use flume_model::step::{Reply, Step};
 use flume_state::entries::Entries;
@@ -33,7 +33,7 @@ pub struct Chan<T, S, A: Allocator = Global> {
     greatest: Option<usize>,
     line: Line<T, S, A>,
     entries: Entries<T, S, A>,
-    next: u64,
+    next_ticket: u64,
     peak: usize,
     senders: usize,
     receivers: usize,
@@ -54,7 +54,7 @@ impl<T, S, A: Allocator> Model for Chan<T, S, A> {
       space = chan.line.space;
       sends = chan.line.sends;
       entries = chan.entries;
-      next = chan.next;
+      next_ticket = chan.next_ticket;
       peak = chan.peak;
       senders = chan.senders;
       receivers = chan.receivers;
@@ -93,7 +93,7 @@ impl<T: Drop, S: Drop, A: Allocator + Copy> Chan<T, S, A> {
             greatest: capacity,
             line: Line::new(alloc),
             entries: Entries::new(alloc),
-            next: ticket,
+            next_ticket: ticket,
             peak: 0,
             senders: 1,
             receivers: 1,

@@ -11,7 +11,8 @@ ghost use Rattle.flume_error.specs.declared.error.receive.RecvError.{RecvError};
 ghost use Rattle.flume_error.specs.declared.error.receive.TryRecvError.{TryRecvError};
 ghost use Rattle.flume_error.specs.declared.error.receive.RecvTimeoutError.{RecvTimeoutError};
 ghost use Rattle.flume_error.specs.Messages.{send_message, try_send_message, send_timeout_message};
-ghost use Rattle.flume_error.specs.Equality.{equal_sends, equal_try_sends, equal_send_timeouts};
+ghost use Rattle.flume_error.specs.Equality.{equal_send_errors, equal_try_send_errors};
+ghost use Rattle.flume_error.specs.Equality.{equal_send_timeout_errors};
 
 use crate::error::{
     CapacityError, NoMemory, RecvError, RecvTimeoutError, SelectError, SendError, SendTimeoutError,
@@ -31,11 +32,11 @@ pub fn conversions_keep_the_message<T>()
 /// Two send errors are equal exactly if their cases are the same and their messages are equal.
 pub fn send_errors_are_equal_by_case_and_message<T: PartialEq>()
     ensures send { (a b : SendError T)
-        → ⟦<SendError<T> as PartialEq>⟧.eq a b ≡ equal_sends T.eq a b }
+        → ⟦<SendError<T> as PartialEq>⟧.eq a b ≡ equal_send_errors T.eq a b }
     ensures try_send { (a b : TrySendError T)
-        → ⟦<TrySendError<T> as PartialEq>⟧.eq a b ≡ equal_try_sends T.eq a b }
+        → ⟦<TrySendError<T> as PartialEq>⟧.eq a b ≡ equal_try_send_errors T.eq a b }
     ensures send_timeout { (a b : SendTimeoutError T)
-        → ⟦<SendTimeoutError<T> as PartialEq>⟧.eq a b ≡ equal_send_timeouts T.eq a b }
+        → ⟦<SendTimeoutError<T> as PartialEq>⟧.eq a b ≡ equal_send_timeout_errors T.eq a b }
 {}
 
 /// Two other errors are equal exactly if their cases are the same.

@@ -36,7 +36,7 @@ module _ {T A : Type 0} (equal : T → T → Bool) (events : List (Event T A)) w
       → call_by events t c.calls ≡ Some one → call_at events one.place ≡ Some own → open_call past t ≡ Some (own, stage)
       → new.calls ≡ calls_with_progress one.place q c.calls → ((p : ℕ) → p ≢ one.place → tickets p ≡ h.tickets p)
       → IsProgress equal events own (first_answer t rest) (tickets one.place) q (stage_after own stage reply)
-      → Represents o ((step, reply) ∷ steps_in past) s → Mirrors events tickets s new → AreParked events tickets s.next new
+      → Represents o ((step, reply) ∷ steps_in past) s → Mirrors events tickets s new → AreParked events tickets s.next_ticket new
       → Agrees equal events o (Makes t step reply ∷ past) rest new
   agrees_after o past rest c new t one own stage step reply q tickets s h is_own call_is opened calls kept progress represents mirrors
       parked_ =

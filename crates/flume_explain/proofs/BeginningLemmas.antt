@@ -16,13 +16,14 @@ module _ {T A : Type 0} (equal : T → T → Bool) where
 
   -- so there are some, if they aren't
   pub some_events : (o : Opening) (events : List (Event T A)) → (IsExplained equal o events → ⊥) → 0 < length events
-  some_events o [] not_on = absurd (not_on (none_explained o))
-  some_events o (event ∷ events) not_on = omega arith
+  some_events o [] not_with_next = absurd (not_with_next (none_explained o))
+  some_events o (event ∷ events) not_with_next = omega arith
 
   -- all of them aren't
   pub all_not_on : (o : Opening) (events : List (Event T A)) → (IsExplained equal o events → ⊥)
       → IsExplained equal o (take (length events) events) → ⊥
-  all_not_on o events not_on explained = not_on (subst (IsExplained equal o) (take_all (length events) events (omega arith)) explained)
+  all_not_on o events not_with_next explained = not_with_next
+      (subst (IsExplained equal o) (take_all (length events) events (omega arith)) explained)
 
   -- a beginning of a beginning
   shorter : (events : List (Event T A)) (n count : ℕ) → count < length (take n events)
@@ -38,7 +39,7 @@ module _ {T A : Type 0} (equal : T → T → Bool) where
       record {
         is_within = omega arith;
         before = subst (IsExplained equal o) (take-take count n events (omega arith)) breaks.before;
-        not_on = subst (λ e. IsExplained equal o e → ⊥) (shorter events n count within) breaks.not_on;
+        not_with_next = subst (λ e. IsExplained equal o e → ⊥) (shorter events n count within) breaks.not_with_next;
       }
 
   -- if so many are explained of a beginning of the events, and all of that aren't, so it is of the events

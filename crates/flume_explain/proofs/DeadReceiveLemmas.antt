@@ -25,7 +25,7 @@ use Rattle.flume_explain.specs.declared.choice.Choice.TheVariants.{TakeEvent, Ma
 use Rattle.flume_explain.specs.declared.configuration.OpenCall.{OpenCall}
 use Rattle.flume_explain.specs.Configurations.{State, event_at, thread_at, first_answer}
 use Rattle.flume_explain.specs.Leads.{IsWrong, LeadsTo, LeadsNowhere}
-use Rattle.flume_explain.specs.Dead.{onto, IsDead, IsDeadWithin, IsItemOf, CoverNext, IsSpent, EventLeads, EventWaits}
+use Rattle.flume_explain.specs.Dead.{onto, IsDeadEnd, IsDeadEndWithin, IsItemOf, CoverNext, IsSpent, EventLeads, EventWaits}
 
 module _ {T A : Type 0} (equal : T → T → Bool) (events : List (Event T A)) where
   -- an explanation without its later items is one
@@ -37,7 +37,7 @@ module _ {T A : Type 0} (equal : T → T → Bool) (events : List (Event T A)) w
 
   -- with no choice left, nothing goes on
   within : (place : ℕ) (c : State) → (drop place events ≡ [] → ⊥) → CoverNext equal events place c []
-      → (n : ℕ) → IsDeadWithin equal events n place c
+      → (n : ℕ) → IsDeadEndWithin equal events n place c
   within place c more left zero o past [] short agrees on = more (sym on.events_are)
   within place c more left zero o past (item ∷ items) short agrees on = absurd (omega arith)
   within place c more left (suc n) o past [] short agrees on = more (sym on.events_are)
@@ -48,7 +48,7 @@ module _ {T A : Type 0} (equal : T → T → Bool) (events : List (Event T A)) w
       let none = chosen.1.1 in absurd (omega (arith, none))
 
   pub dead : (place : ℕ) (c : State) → (drop place events ≡ [] → ⊥) → CoverNext equal events place c []
-      → IsDead equal events place c
+      → IsDeadEnd equal events place c
   dead place c more left o past items agrees on =
       within place c more left (length items) o past items (omega arith) agrees on
 
@@ -77,7 +77,7 @@ module _ {T A : Type 0} (equal : T → T → Bool) (events : List (Event T A)) w
       (k.0, k.1 ∙ ap (λ n. drop n (first ∷ all)) (let more : suc (place + 1) ≡ suc place + 1 = omega arith in more))
 
   -- the event is spent if it leads to a dead configuration, and if it can't come
-  pub spent_event : (place : ℕ) (c new : State) → EventLeads equal events place c new → IsDead equal events (place + 1) new
+  pub spent_event : (place : ℕ) (c new : State) → EventLeads equal events place c new → IsDeadEnd equal events (place + 1) new
       → IsSpent equal events place c TakeEvent
   spent_event place c new leads gone o past (Makes u step reply) items agrees short on of = let is = of.1 in
       absurd (let none : ⊥ = cc in none)
@@ -99,7 +99,7 @@ module _ {T A : Type 0} (equal : T → T → Bool) (events : List (Event T A)) w
       → LeadsTo equal events c (drop place events) t other refused new
 
   pub spent_step : (place : ℕ) (c new : State) (call : OpenCall) (other refused : Bool) → Leads place c call other refused new
-      → IsDead equal events place new → IsSpent equal events place c (MakeStep call other refused)
+      → IsDeadEnd equal events place new → IsSpent equal events place c (MakeStep call other refused)
   spent_step place c new call other refused leads gone o past (Happens event) items agrees short on of = of.3
   spent_step place c new call other refused leads gone o past (Makes u step reply) items agrees short on of =
       gone o (Makes u step reply ∷ past) items

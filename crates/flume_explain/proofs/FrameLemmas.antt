@@ -9,7 +9,7 @@ use Rattle.flume_explain.specs.declared.dead.Dead.{Dead}
 use Rattle.flume_explain.specs.declared.frame.Frame.{Frame}
 use Rattle.flume_explain.specs.declared.search.Search.{Search}
 use Rattle.flume_explain.specs.Configurations.{State}
-use Rattle.flume_explain.specs.Dead.{CoverNext, IsDead, EventLeads, EventWaits}
+use Rattle.flume_explain.specs.Dead.{CoverNext, IsDeadEnd, EventLeads, EventWaits}
 use Rattle.flume_explain.specs.Search.{AreOnTheWay, FrameCovers, Searches, dead_at}
 use Rattle.flume_explain.proofs.DeadReceiveLemmas.{dead, fewer, spent_event, spent_wait}
 
@@ -23,7 +23,7 @@ module _ {T A : Type 0} (equal : T → T → Bool) (events : List (Event T A)) w
 
   -- a frame more
   pub way_push : (start : Type 0) (frames : List (Frame A)) (frame : Frame A) (last : Type 0)
-      → AreOnTheWay equal events start frames (IsDead equal events frame.place frame.configuration)
+      → AreOnTheWay equal events start frames (IsDeadEnd equal events frame.place frame.configuration)
       → frame.place < length events → (last → FrameCovers equal events frame)
       → AreOnTheWay equal events start (frames ++ frame ∷ []) last
   way_push start [] frame last way within left = (within, way, left)
@@ -32,7 +32,7 @@ module _ {T A : Type 0} (equal : T → T → Bool) (events : List (Event T A)) w
 
   -- a frame less
   abbrev pub Popped : Type 0 → List (Frame A) → Frame A → Type 0 → Type 0
-  Popped start frames frame last = AreOnTheWay equal events start frames (IsDead equal events frame.place frame.configuration)
+  Popped start frames frame last = AreOnTheWay equal events start frames (IsDeadEnd equal events frame.place frame.configuration)
       × (frame.place < length events) × (last → FrameCovers equal events frame)
 
   -- what is left of the way
@@ -49,41 +49,42 @@ module _ {T A : Type 0} (equal : T → T → Bool) (events : List (Event T A)) w
 
   -- the event alone may come next, and leads to a dead configuration
   pub event_dead : (place : ℕ) (c new : State) → place < length events → CoverNext equal events place c (TakeEvent ∷ [])
-      → EventLeads equal events place c new → IsDead equal events (place + 1) new → IsDead equal events place c
+      → EventLeads equal events place c new → IsDeadEnd equal events (place + 1) new → IsDeadEnd equal events place c
   event_dead place c new within left leads gone = dead equal events place c (some_left place within)
       (fewer equal events place c [] TakeEvent left (spent_event equal events place c new leads gone))
 
   -- the event alone may come next, and can't
   pub wait_dead : (place : ℕ) (c : State) → place < length events → CoverNext equal events place c (TakeEvent ∷ [])
-      → EventWaits equal events place c → IsDead equal events place c
+      → EventWaits equal events place c → IsDeadEnd equal events place c
   wait_dead place c within left waits = dead equal events place c (some_left place within)
       (fewer equal events place c [] TakeEvent left (spent_wait equal events place c waits))
 
   -- what is known of the frame that a search takes off
   pub search_pop : (start : State) (search : Search A) (frames : List (Frame A)) (frame : Frame A)
       → search.frames.items ≡ frames ++ frame ∷ []
-      → Searches equal events start (Unit {0}) search → Popped (IsDead equal events 0 start) frames frame (Unit {0})
-  search_pop start search frames frame is s = way_pop (IsDead equal events 0 start) frames frame (Unit {0})
-      (subst (λ l. AreOnTheWay equal events (IsDead equal events 0 start) l (Unit {0})) is s.way)
+      → Searches equal events start (Unit {0}) search → Popped (IsDeadEnd equal events 0 start) frames frame (Unit {0})
+  search_pop start search frames frame is s = way_pop (IsDeadEnd equal events 0 start) frames frame (Unit {0})
+      (subst (λ l. AreOnTheWay equal events (IsDeadEnd equal events 0 start) l (Unit {0})) is s.way)
 
   -- frames and remembered ones, with which a search goes on
   abbrev pub GoWith : State → Type 0 → List (Frame A) → List (Dead A) → Type 0
   GoWith start last frames dead =
-      AreOnTheWay equal events (IsDead equal events 0 start) frames last × All (λ d. IsDead equal events d.place d.configuration) dead
+      AreOnTheWay equal events (IsDeadEnd equal events 0 start) frames last × All (λ d. IsDeadEnd equal events d.place d.configuration) dead
 
   -- the frame leads on to a configuration, and stands again with fewer choices
   pub search_leads : (start : State) (search : Search A) (frames now : List (Frame A)) (frame left : Frame A) (at : ℕ) (new : State)
       → search.frames.items ≡ frames ++ frame ∷ [] → now ≡ frames ++ left ∷ []
-      → left.place ≡ frame.place → left.configuration ≡ frame.configuration → (IsDead equal events at new → FrameCovers equal events left)
-      → Searches equal events start (Unit {0}) search → GoWith start (IsDead equal events at new) now search.dead.dead.items
+      → left.place ≡ frame.place → left.configuration ≡ frame.configuration
+      → (IsDeadEnd equal events at new → FrameCovers equal events left)
+      → Searches equal events start (Unit {0}) search → GoWith start (IsDeadEnd equal events at new) now search.dead.dead.items
   search_leads start search frames now frame left at new is to same_place same leads s =
       let popped = search_pop start search frames frame is s in (
-        subst (λ l. AreOnTheWay equal events (IsDead equal events 0 start) l (IsDead equal events at new)) (sym to)
-            (way_push (IsDead equal events 0 start) frames left (IsDead equal events at new)
-            (way_from (IsDead equal events 0 start) frames (IsDead equal events frame.place frame.configuration)
-            (IsDead equal events left.place left.configuration)
-            (λ gone. subst (λ n. IsDead equal events n frame.configuration) same_place
-            (subst (λ x. IsDead equal events left.place x) same gone)) popped.0)
+        subst (λ l. AreOnTheWay equal events (IsDeadEnd equal events 0 start) l (IsDeadEnd equal events at new)) (sym to)
+            (way_push (IsDeadEnd equal events 0 start) frames left (IsDeadEnd equal events at new)
+            (way_from (IsDeadEnd equal events 0 start) frames (IsDeadEnd equal events frame.place frame.configuration)
+            (IsDeadEnd equal events left.place left.configuration)
+            (λ gone. subst (λ n. IsDeadEnd equal events n frame.configuration) same_place
+            (subst (λ x. IsDeadEnd equal events left.place x) same gone)) popped.0)
             (subst (λ n. n < length events) (sym same_place) popped.1) leads),
         s.dead,
       )
@@ -91,22 +92,22 @@ module _ {T A : Type 0} (equal : T → T → Bool) (events : List (Event T A)) w
   -- the frame is dead, and remembered
   pub search_dead : (start : State) (search : Search A) (frames : List (Frame A)) (gone : List (Dead A)) (frame left : Frame A)
       → search.frames.items ≡ frames ++ frame ∷ [] → gone ≡ search.dead.dead.items ++ dead_at left.place left.configuration ∷ []
-      → left.place ≡ frame.place → left.configuration ≡ frame.configuration → IsDead equal events left.place left.configuration
+      → left.place ≡ frame.place → left.configuration ≡ frame.configuration → IsDeadEnd equal events left.place left.configuration
       → Searches equal events start (Unit {0}) search → GoWith start (Unit {0}) frames gone
   search_dead start search frames gone frame left is remembered same_place same none s =
       let popped = search_pop start search frames frame is s in (
-        way_from (IsDead equal events 0 start) frames (IsDead equal events frame.place frame.configuration) (Unit {0})
-            (λ x. subst (λ n. IsDead equal events n frame.configuration) same_place
-            (subst (λ x. IsDead equal events left.place x) same none)) popped.0,
-        subst (All (λ d. IsDead equal events d.place d.configuration)) (sym remembered)
-            (All-push (λ (d : Dead A). IsDead equal events d.place d.configuration) search.dead.dead.items
+        way_from (IsDeadEnd equal events 0 start) frames (IsDeadEnd equal events frame.place frame.configuration) (Unit {0})
+            (λ x. subst (λ n. IsDeadEnd equal events n frame.configuration) same_place
+            (subst (λ x. IsDeadEnd equal events left.place x) same none)) popped.0,
+        subst (All (λ d. IsDeadEnd equal events d.place d.configuration)) (sym remembered)
+            (All-push (λ (d : Dead A). IsDeadEnd equal events d.place d.configuration) search.dead.dead.items
             (dead_at left.place left.configuration) s.dead none),
       )
 
   -- with no frame left, the start is dead
   pub search_ends : (start : State) (search : Search A) → search.frames.items ≡ [] → Searches equal events start (Unit {0}) search
-      → IsDead equal events 0 start
-  search_ends start search none s = subst (λ l. AreOnTheWay equal events (IsDead equal events 0 start) l (Unit {0})) none s.way tt
+      → IsDeadEnd equal events 0 start
+  search_ends start search none s = subst (λ l. AreOnTheWay equal events (IsDeadEnd equal events 0 start) l (Unit {0})) none s.way tt
 
 -- what was pushed, if that was done
 pub was_pushed : {X : Type 0} (done : Bool) (before after more : List X) → after ≡ (if done then more else before) → done ≡ true

@@ -69,7 +69,7 @@ module _ {T A : Type 0} (equal : T → T → Bool) (events : List (Event T A)) w
               call_by-new events t c.calls (new_call place) no_call (ap (is_thread t) thread
                   ∙ eq-eqb t t refl),
             );
-        parked = parked_same events agrees.tickets agrees.state.next c calls (parked_at-begun c.calls place) agrees.parked;
+        parked = parked_same events agrees.tickets agrees.state.next_ticket c calls (parked_at-begun c.calls place) agrees.parked;
       })
     where
       calls : List OpenCall
@@ -189,7 +189,7 @@ module _ {T A : Type 0} (equal : T → T → Bool) (events : List (Event T A)) w
         };
         calls_are = λ u. at u (t == u) refl;
         threads_apart = all_still_own c t one own agrees.threads_apart;
-        parked = parked_same events agrees.tickets agrees.state.next c calls (λ p. parked_at-without one.place c.calls p
+        parked = parked_same events agrees.tickets agrees.state.next_ticket c calls (λ p. parked_at-without one.place c.calls p
             (All-weaker (IsOwn equal events c.calls) (IsIdle one.place) (idle c t one own free) c.calls agrees.threads_apart))
             agrees.parked;
       })

@@ -9,9 +9,9 @@ use Rattle.flume_explain.specs.declared.configuration.ParkedReceive.{ParkedRecei
 use Rattle.flume_explain.specs.declared.configuration.Status.TheVariants.{Waiting}
 use Rattle.flume_explain.specs.declared.place_reply.PlaceReply.{PlaceReply}
 use Rattle.flume_explain.specs.Configurations.{State}
-use Rattle.flume_explain.specs.ByPlaces.{admit_of, full_now, front_of, with_front, take_leaving, refill}
+use Rattle.flume_explain.specs.ByPlaces.{admit_of, full_now, front_of, with_front, take_leaving, admit_if_room}
 use Rattle.flume_explain.specs.ByPlaces.{again_as}
-use Rattle.flume_explain.specs.Receives.{receive_of, without_place, is_awake, with_status}
+use Rattle.flume_explain.specs.Receives.{receive_at, without_place, is_awake, with_status}
 use Rattle.flume_explain.proofs.MoveAnswers.{IsPlaceAfter, stays_parked}
 
 -- the places of parked receives
@@ -42,10 +42,10 @@ module _ (P : ℕ → Type 0) where
   admitted_blocked c [] h is = subst (All P) (sym is) h
   admitted_blocked c (p ∷ ps) h is = All-tail P p ps h
 
-  refilled_blocked : (c : State) → All P c.blocked → All P (refill c).blocked
-  refilled_blocked c h = by_case (full_now c) refl
+  let_in_blocked : (c : State) → All P c.blocked → All P (admit_if_room c).blocked
+  let_in_blocked c h = by_case (full_now c) refl
     where
-      by_case : (b : Bool) → full_now c ≡ b → All P (refill c).blocked
+      by_case : (b : Bool) → full_now c ≡ b → All P (admit_if_room c).blocked
       by_case true full = rw full h
       by_case false room = rw room (admitted_blocked c c.blocked h refl)
 
@@ -57,7 +57,7 @@ module _ (P : ℕ → Type 0) where
       go (p ∷ queue) = h
 
   pub taken_blocked : (rest : List ℕ) (c : State) → All P c.blocked → All P (take_leaving rest c).blocked
-  taken_blocked rest c h = refilled_blocked (record (with_front c) { queue = rest }) (fronted_blocked c h)
+  taken_blocked rest c h = let_in_blocked (record (with_front c) { queue = rest }) (fronted_blocked c h)
 
 -- a take leaves the receives as they are
 admitted_receives : (c : State) (ps : List ℕ) → (admit_of ps c).receives ≡ c.receives
@@ -65,10 +65,10 @@ admitted_receives c [] = refl
 admitted_receives c (p ∷ ps) = refl
 
 -- so does admitting sends into the room that there is
-refilled_receives : (c : State) → (refill c).receives ≡ c.receives
-refilled_receives c = by_case (full_now c) refl
+let_in_receives : (c : State) → (admit_if_room c).receives ≡ c.receives
+let_in_receives c = by_case (full_now c) refl
   where
-    by_case : (b : Bool) → full_now c ≡ b → (refill c).receives ≡ c.receives
+    by_case : (b : Bool) → full_now c ≡ b → (admit_if_room c).receives ≡ c.receives
     by_case true full = rw full refl
     by_case false room = rw room (admitted_receives c c.blocked)
 
@@ -82,14 +82,14 @@ fronted_receives c = go c.queue
 
 -- so does the whole take
 pub taken_receives : (rest : List ℕ) (c : State) → (take_leaving rest c).receives ≡ c.receives
-taken_receives rest c = refilled_receives (record (with_front c) { queue = rest }) ∙ fronted_receives c
+taken_receives rest c = let_in_receives (record (with_front c) { queue = rest }) ∙ fronted_receives c
 
 -- no receive is at a place if none is found there
-pub absent : (p : ℕ) (rs : List ParkedReceive) → receive_of p rs ≡ None → All (λ q. q ≢ p) (places rs)
+pub absent : (p : ℕ) (rs : List ParkedReceive) → receive_at p rs ≡ None → All (λ q. q ≢ p) (places rs)
 absent p [] none = All-nil (λ q. q ≢ p)
 absent p (r ∷ rs) none = by_case (eqb r.place p) refl (absent p rs)
   where
-    by_case : (b : Bool) → eqb r.place p ≡ b → (receive_of p rs ≡ None → All (λ q. q ≢ p) (places rs))
+    by_case : (b : Bool) → eqb r.place p ≡ b → (receive_at p rs ≡ None → All (λ q. q ≢ p) (places rs))
         → All (λ q. q ≢ p) (places (r ∷ rs))
     by_case true same rest = absurd (let found = simp same at none in let no : ⊥ = cc in no)
     by_case false other rest =
@@ -98,11 +98,11 @@ absent p (r ∷ rs) none = by_case (eqb r.place p) refl (absent p rs)
 
 -- what holds of all receives holds of the one at a place, and of the others
 module _ (P : ParkedReceive → Type 0) (p : ℕ) where
-  pub found_all : (rs : List ParkedReceive) (r : ParkedReceive) → All P rs → receive_of p rs ≡ Some r → P r
+  pub found_all : (rs : List ParkedReceive) (r : ParkedReceive) → All P rs → receive_at p rs ≡ Some r → P r
   found_all [] r h found = absurd (let none : ⊥ = cc in none)
   found_all (x ∷ rs) r h found = by_case (eqb x.place p) refl (found_all rs r (All-tail P x rs h))
     where
-      by_case : (b : Bool) → eqb x.place p ≡ b → (receive_of p rs ≡ Some r → P r) → P r
+      by_case : (b : Bool) → eqb x.place p ≡ b → (receive_at p rs ≡ Some r → P r) → P r
       by_case true same rest =
           let at : Some x ≡ Some r = simp same at found in
           let is : x ≡ r = cc in
@@ -125,10 +125,10 @@ without_among p rs =
     (all_of_places (Contains (places rs)) rs (All-contains_itself (places rs))))
 
 -- and so are all that are parked once one asks again
-pub again_among : (p : ℕ) (rs : List ParkedReceive) → All (Contains (places rs)) (places (again_as p (receive_of p rs) rs))
-again_among p rs = go (receive_of p rs) refl
+pub again_among : (p : ℕ) (rs : List ParkedReceive) → All (Contains (places rs)) (places (again_as p (receive_at p rs) rs))
+again_among p rs = go (receive_at p rs) refl
   where
-    go : (found : Option ParkedReceive) → receive_of p rs ≡ found → All (Contains (places rs)) (places (again_as p found rs))
+    go : (found : Option ParkedReceive) → receive_at p rs ≡ found → All (Contains (places rs)) (places (again_as p found rs))
     go None at = All-contains_itself (places rs)
     go (Some r) at = by_case (is_awake r.status) refl
       where

@@ -44,7 +44,8 @@ pub mod SameLemmas
 pub mod StepLemmas
 -- Why a configuration is dead: nothing that may come next leads on.
 pub mod DeadReceiveLemmas
--- What may come next: the next event, or a step of an open call; and only the event, if it begins a call, or if the call that returns has its answer.
+-- What may come next: the next event, or a step of an open call; and only the event, if it begins a call, or if the
+-- call that returns has its answer.
 pub mod CoverLemmas
 -- When the next event can't come: it begins a call of a thread that has one open, or returns what the open call may not.
 pub mod WaitLemmas

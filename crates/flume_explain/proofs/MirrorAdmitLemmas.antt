@@ -6,7 +6,7 @@ use Rattle.std.proofs.lemmas.List.{map_push}
 use Rattle.std.proofs.lemmas.List.Elements.{All-tail}
 use Rattle.flume_model.specs.Limits.{is_full}
 use Rattle.flume_state.specs.Messages.{Blocked}
-use Rattle.flume_state.specs.Sends.{changed, accepted_now}
+use Rattle.flume_state.specs.Sends.{with_send_changed, accepted_now}
 use Rattle.flume_state.specs.State.{State as Channel, offers_of}
 use Rattle.flume_state.specs.Effects.{after_admissions, after_admissions_of}
 use Rattle.flume_concurrent.specs.declared.event.Event.{Event}
@@ -46,7 +46,7 @@ module _ {T A : Type 0} (events : List (Event T A)) (tickets : ℕ → ℕ) wher
   joined_state b later s = record s {
     queue = s.queue ++ b.message ∷ [];
     blocked = later;
-    sends = changed s.sends b.ticket accepted_now;
+    sends = with_send_changed s.sends b.ticket accepted_now;
   }
 
   -- one joins the queue, the first of those that are blocked

@@ -16,7 +16,7 @@ use Rattle.flume_model.specs.Parked.{LogEntry, entries}
 use Rattle.flume_model.proofs.EntryMarkLemmas.{left_out}
 use Rattle.flume_model.proofs.EntryShapeLemmas.{entries_apart}
 use Rattle.flume_state.specs.declared.notice.Notice.{Notice}
-use Rattle.flume_state.specs.Receivers.{noticed_receiver, new_receiver, receiver_status, status_of, status_by}
+use Rattle.flume_state.specs.Receivers.{with_receiver_notice, new_receiver, receiver_status, status_of, status_by}
 use Rattle.flume_state.specs.State.{State as Channel, bare}
 use Rattle.flume_state.specs.Effects.{without_receiver, with_peak}
 use Rattle.flume_core.specs.Represents.{Represents}
@@ -29,7 +29,7 @@ use Rattle.flume_explain.specs.declared.configuration.Status.TheVariants as stat
 use Rattle.flume_explain.specs.Configurations.{State, message_at}
 use Rattle.flume_explain.specs.ByPlaces.{without_receive, ask_again}
 use Rattle.flume_explain.specs.ByPlaces.{again_as as again_here}
-use Rattle.flume_explain.specs.Receives.{receive_of, without_place}
+use Rattle.flume_explain.specs.Receives.{receive_at, without_place}
 use Rattle.flume_explain.specs.Outcomes.{with_parked}
 use Rattle.flume_explain.specs.Mirrors.{Mirrors, mark_of, some_mark, some_entry, entry_for}
 use Rattle.flume_explain.proofs.MoveAnswers.{with_ticket}
@@ -72,20 +72,20 @@ module _ {T A : Type 0} (events : List (Event T A)) where
     module _ (s : Channel T (Unit {0})) (c : State) (place : ℕ) (h : Mirrors events tickets s c)
         (alone : All (IsAlone events tickets place) c.receives) where
       -- the receive at a place is the entry with its ticket
-      found_same : option_map placed (receive_of place c.receives)
+      found_same : option_map placed (receive_at place c.receives)
           ≡ option_map some_entry (option_map bare (entry_of (tickets place) s.entries))
       found_same =
           sym (placed_entry events tickets place c.receives alone) ∙ ap (entry_of (tickets place)) h.receives_are
           ∙ some_entry_of (tickets place) (map bare s.entries) ∙ ap (option_map some_entry) (bare_entry (tickets place) s.entries)
 
-      pub stands_none : receive_of place c.receives ≡ None → receiver_status (tickets place) s.entries ≡ None
+      pub stands_none : receive_at place c.receives ≡ None → receiver_status (tickets place) s.entries ≡ None
       stands_none none =
           let gone = sym found_same ∙ ap (option_map placed) none in
           ap (option_map status_of)
           (none_mapped bare (entry_of (tickets place) s.entries)
           (none_mapped some_entry (option_map bare (entry_of (tickets place) s.entries)) gone))
 
-      pub stands_as : (r : ParkedReceive) → receive_of place c.receives ≡ Some r → StandsAs s place r
+      pub stands_as : (r : ParkedReceive) → receive_at place c.receives ≡ Some r → StandsAs s place r
       stands_as r at = go (entry_of (tickets place) s.entries) refl (sym (ap (option_map placed) at) ∙ found_same)
         where
           go : (found : Option (Entry T (Notice (Unit {0})))) → entry_of (tickets place) s.entries ≡ found
@@ -117,10 +117,10 @@ module _ {T A : Type 0} (events : List (Event T A)) where
       }
 
       -- it asks again
-      placed_again : map placed (again_here place (receive_of place c.receives) c.receives)
+      placed_again : map placed (again_here place (receive_at place c.receives) c.receives)
           ≡ again (tickets place) (map placed c.receives)
       placed_again =
-          go (receive_of place c.receives)
+          go (receive_at place c.receives)
           ∙ ap (λ found. again_as (tickets place) found (map placed c.receives))
           (sym (placed_entry events tickets place c.receives alone))
         where
@@ -140,7 +140,8 @@ module _ {T A : Type 0} (events : List (Event T A)) where
               step (status.Filled x) k q = refl
 
       pub mirror_again : (f : Notice (Unit {0}) → Notice (Unit {0}))
-          → Mirrors events tickets (with_peak (again (tickets place) (noticed_receiver f (tickets place) s.entries)) s) (ask_again place c)
+          → Mirrors events tickets (with_peak (again (tickets place) (with_receiver_notice f (tickets place) s.entries)) s)
+          (ask_again place c)
       mirror_again f = record {
         capacity_is = h.capacity_is;
         senders_are = h.senders_are;
@@ -151,7 +152,7 @@ module _ {T A : Type 0} (events : List (Event T A)) where
             ∙ ap (again (tickets place)) h.receives_are
             ∙ sym (some_again (tickets place) (map bare s.entries))
             ∙ ap (map some_entry) (ap (again (tickets place)) (sym (bare_noticed f (tickets place) s.entries))
-            ∙ sym (bare_again (tickets place) (noticed_receiver f (tickets place) s.entries)));
+            ∙ sym (bare_again (tickets place) (with_receiver_notice f (tickets place) s.entries)));
       }
 
       -- no other receive is at its place
@@ -163,34 +164,35 @@ module _ {T A : Type 0} (events : List (Event T A)) where
           ∙ ap (map some_entry) represents.entries_are in
           let gone : entry_of t (without_ticket t (entries o log)) ≡ None =
           left_out (next_ticket o log) t (entries o log) (entries_apart o log represents.run) in
-          let none : option_map placed (receive_of place (without_place place c.receives)) ≡ None =
+          let none : option_map placed (receive_at place (without_place place c.receives)) ≡ None =
           sym (placed_entry events tickets place (without_place place c.receives)
           (without_all (IsAlone events tickets place) place c.receives alone))
           ∙ ap (entry_of t) (placed_without events tickets place c.receives alone ∙ ap (without_ticket t) in_log
           ∙ sym (some_without t (entries o log)))
           ∙ some_entry_of t (without_ticket t (entries o log)) ∙ ap (option_map some_entry) gone in
           absent place (without_place place c.receives)
-          (none_mapped placed (receive_of place (without_place place c.receives)) none)
+          (none_mapped placed (receive_at place (without_place place c.receives)) none)
 
     -- a receive parks
     pub mirror_parked : (s : Channel T (Unit {0})) (c : State) (place : ℕ) (kind : Kind) → Mirrors events tickets s c
         → All (λ q. q ≢ place) c.blocked → All (λ r. r.place ≢ place) c.receives
-        → Mirrors events (with_ticket place s.next tickets)
-        (with_peak (s.entries ++ new_receiver s.next kind tt ∷ []) (record s { next = s.next + 1 })) (with_parked kind place c)
+        → Mirrors events (with_ticket place s.next_ticket tickets)
+        (with_peak (s.entries ++ new_receiver s.next_ticket kind tt ∷ []) (record s { next_ticket = s.next_ticket + 1 }))
+        (with_parked kind place c)
     mirror_parked s c place kind h blocked others =
         let new : ParkedReceive = record { place = place; kind = kind; status = status.Waiting } in
-        let entry : Entry T (Notice (Unit {0})) = new_receiver s.next kind tt in
+        let entry : Entry T (Notice (Unit {0})) = new_receiver s.next_ticket kind tt in
         let last : ℕ → LogEntry (Option T) = λ t. record { ticket = t; kind = kind; mark = mark.Waiting; notice = tt } in
-        let own_ticket = ticketed_itself place s.next tickets in
+        let own_ticket = ticketed_itself place s.next_ticket tickets in
         record {
           capacity_is = h.capacity_is;
           senders_are = h.senders_are;
           receivers_are = h.receivers_are;
           queue_is = h.queue_is;
-          blocked_are = offers_kept events place s.next tickets c.blocked blocked ∙ h.blocked_are;
-          receives_are = map_push (entry_for events (with_ticket place s.next tickets)) c.receives new
-              ∙ ap (λ l. l ++ entry_for events (with_ticket place s.next tickets) new ∷ [])
-              (entries_kept events place s.next tickets c.receives others ∙ h.receives_are)
+          blocked_are = offers_kept events place s.next_ticket tickets c.blocked blocked ∙ h.blocked_are;
+          receives_are = map_push (entry_for events (with_ticket place s.next_ticket tickets)) c.receives new
+              ∙ ap (λ l. l ++ entry_for events (with_ticket place s.next_ticket tickets) new ∷ [])
+              (entries_kept events place s.next_ticket tickets c.receives others ∙ h.receives_are)
               ∙ ap (λ t. map some_entry (map bare s.entries) ++ last t ∷ []) own_ticket
               ∙ sym (ap (map some_entry) (map_push bare s.entries entry) ∙ map_push some_entry (map bare s.entries) (bare entry));
         }

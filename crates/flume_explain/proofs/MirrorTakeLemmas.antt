@@ -5,11 +5,11 @@ use Rattle.std.proofs.lemmas.List.{map_push}
 use Rattle.flume_model.specs.Limits.{is_full}
 use Rattle.flume_state.specs.Messages.{Blocked}
 use Rattle.flume_state.specs.State.{State as Channel, offers_of}
-use Rattle.flume_state.specs.Effects.{after_admission, after_admission_of, after_refill, with_front}
+use Rattle.flume_state.specs.Effects.{after_admission, after_admission_of, after_admission_if_room, with_front}
 use Rattle.flume_state.specs.Effects.{with_front_of, after_take}
 use Rattle.flume_concurrent.specs.declared.event.Event.{Event}
 use Rattle.flume_explain.specs.Configurations.{State, message_at}
-use Rattle.flume_explain.specs.ByPlaces.{admit, admit_of, refill, full_now, front_of, take_leaving}
+use Rattle.flume_explain.specs.ByPlaces.{admit, admit_of, admit_if_room, full_now, front_of, take_leaving}
 use Rattle.flume_explain.specs.ByPlaces.{with_front as with_front_here}
 use Rattle.flume_explain.specs.Mirrors.{Mirrors, some_offer, offer_for}
 use Rattle.flume_explain.proofs.MirrorViewLemmas.{full_same}
@@ -68,12 +68,12 @@ module _ {T A : Type 0} (events : List (Event T A)) where
     mirror_admit s c h = mirror_admit_of s c s.blocked c.blocked h h.blocked_are
 
     -- it does if the queue has room
-    pub mirror_refill : (s : Channel T (Unit {0})) (c : State) → Mirrors events tickets s c
-        → Mirrors events tickets (after_refill s) (refill c)
-    mirror_refill s c h = by_case (full_now c) refl (sym (full_same events tickets s c h))
+    pub mirror_admit_if_room : (s : Channel T (Unit {0})) (c : State) → Mirrors events tickets s c
+        → Mirrors events tickets (after_admission_if_room s) (admit_if_room c)
+    mirror_admit_if_room s c h = by_case (full_now c) refl (sym (full_same events tickets s c h))
       where
         by_case : (b : Bool) → full_now c ≡ b → is_full s.capacity (length s.queue) ≡ full_now c
-            → Mirrors events tickets (after_refill s) (refill c)
+            → Mirrors events tickets (after_admission_if_room s) (admit_if_room c)
         by_case true full same = rw (same ∙ full, full) h
         by_case false room same = rw (same ∙ room, room) (mirror_admit s c h)
 
@@ -97,7 +97,7 @@ module _ {T A : Type 0} (events : List (Event T A)) where
     mirror_take s c p later h front =
         let fronted = mirror_front s c h in
         let got = first_message p later (with_front s).queue (sym (ap (map (message_at events)) front) ∙ fronted.queue_is) in
-        (got.0, got.1, got.2, got.3, mirror_refill _ _ (mirror_queue (with_front s) (with_front_here c) got.1 later fronted got.4))
+        (got.0, got.1, got.2, got.3, mirror_admit_if_room _ _ (mirror_queue (with_front s) (with_front_here c) got.1 later fronted got.4))
 
     -- no message comes to the front
     pub mirror_empty : (s : Channel T (Unit {0})) (c : State) → Mirrors events tickets s c → (with_front_here c).queue ≡ []

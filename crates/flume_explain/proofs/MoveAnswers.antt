@@ -50,10 +50,10 @@ module _ {T A : Type 0} (events : List (Event T A)) where
       (c : State) (place : ℕ) (step : Step T) (reply_by_place : PlaceReply) (new : State)
       : Type 0 where
     pub reply : Reply T A
-    pub corresponds : Corresponds events s.next c.queue reply_by_place reply
+    pub corresponds : Corresponds events s.next_ticket c.queue reply_by_place reply
     pub state : Channel T (Unit {0})
     pub represents : Represents o ((step, reply) ∷ log) state
-    pub mirrors : Mirrors events (tickets_after reply_by_place place s.next tickets) state new
+    pub mirrors : Mirrors events (tickets_after reply_by_place place s.next_ticket tickets) state new
     pub blocked_after : All (IsPlaceAfter Pending reply_by_place place c.blocked) new.blocked
     pub receives_after : All
         (IsPlaceAfter Parked reply_by_place place (map (λ r. r.place) c.receives))

@@ -55,13 +55,13 @@ module _ {T A : Type 0} (events : List (Event T A)) where
   pub changes_nothing : (o : Opening) (log : Log T A) (s : Channel T (Unit {0})) (c : State) (tickets : ℕ → ℕ) (place : ℕ)
       (step : Step T) (reply_by_place : PlaceReply) (reply : Reply T A) → Represents o log s → Mirrors events tickets s c → IsNew place c
       → IsReply (channel o log) step reply → change log step reply ≡ Stays → parks reply_by_place ≡ false
-      → Corresponds events s.next c.queue reply_by_place reply → Answers events o log tickets s c place step reply_by_place c
+      → Corresponds events s.next_ticket c.queue reply_by_place reply → Answers events o log tickets s c place step reply_by_place c
   changes_nothing o log s c tickets place step reply_by_place reply h m new lawful stays none corresponds = record {
     reply = reply;
     corresponds = corresponds;
     state = s;
     represents = still o log (step, reply) s s h lawful stays refl;
-    mirrors = same_tickets tickets s c reply_by_place place s.next none m;
+    mirrors = same_tickets tickets s c reply_by_place place s.next_ticket none m;
     blocked_after = places_left reply_by_place place c.blocked new.not_blocked;
     receives_after = receives_stay reply_by_place place c.receives new.not_parked;
   }

@@ -28,10 +28,10 @@ use Rattle.flume_explain.specs.declared.place_reply.PlaceReply.TheVariants as re
 use Rattle.flume_explain.specs.declared.step_of.Move.{Move}
 use Rattle.flume_explain.specs.declared.step_of.Move.TheVariants as move
 use Rattle.flume_explain.specs.Configurations.{State, is_parked}
-use Rattle.flume_explain.specs.Receives.{receive_of}
-use Rattle.flume_explain.specs.ByPlaces.{closed_now, full_now, some_waits, with_front, join, without_receive, ask_again, resize}
+use Rattle.flume_explain.specs.Receives.{receive_at}
+use Rattle.flume_explain.specs.ByPlaces.{closed_now, full_now, some_waits, with_front, push, without_receive, ask_again, resize}
 use Rattle.flume_explain.specs.ByPlaces.{end_dropped}
-use Rattle.flume_explain.specs.Outcomes.{ReplyAndState, outcome, offer_outcome, take_back_outcome, poll_send_outcome, withdraw_send_outcome}
+use Rattle.flume_explain.specs.Outcomes.{ReplyAndState, outcome, send_outcome, take_back_outcome, poll_send_outcome, withdraw_send_outcome}
 use Rattle.flume_explain.specs.Outcomes.{is_blocked, receive_outcome, receive_outcome_from, leaves_with, poll_line_outcome, poll_outcome_as}
 use Rattle.flume_explain.specs.Outcomes.{poll_outcome_by, withdraw_outcome_as, withdraw_outcome_by, clone_outcome, drop_outcome}
 use Rattle.flume_explain.specs.Outcomes.{resize_outcome, with_parked}
@@ -168,11 +168,11 @@ may_answer mv reply_by_place = true
 -- what holds of each reply that an answer may have holds of its reply
 module _ (P : PlaceReply → Type 0) where
   offered_has : (no_room : ReplyAndState) (place : ℕ) (c : State) → P reply.Closed → P no_room.0 → P reply.Sent
-      → P (offer_outcome no_room place c).0
+      → P (send_outcome no_room place c).0
   offered_has no_room place c closed full sent = by_case (closed_now c) (not (some_waits c.receives) && full_now c)
     where
       by_case : (a b : Bool) → P (let answer : ReplyAndState =
-          if a then (reply.Closed, c) else (if b then no_room else (reply.Sent, join place c)) in answer).0
+          if a then (reply.Closed, c) else (if b then no_room else (reply.Sent, push place c)) in answer).0
       by_case true b = closed
       by_case false true = full
       by_case false false = sent
@@ -305,8 +305,8 @@ made_may move.WithdrawSend p c = withdrawn_may p c
 made_may move.TryRecv p c = received_has (May move.TryRecv) (reply.Empty, c) (reply.Ended, c) c (λ p. refl) refl refl
 made_may (move.Recv kind) p c = received_has (May (move.Recv kind)) (reply.Parked, with_parked kind p c) (reply.Ended, c) c
     (λ p. refl) refl refl
-made_may move.Poll p c = poll_may p (receive_of p c.receives) c
-made_may move.Withdraw p c = leave_may p (receive_of p c.receives) c
+made_may move.Poll p c = poll_may p (receive_at p c.receives) c
+made_may move.Withdraw p c = leave_may p (receive_at p c.receives) c
 made_may move.Drain p c = refl
 made_may move.CloneSender p c = cloned_may move.CloneSender refl c.senders (record c { senders = c.senders + 1 }) c refl refl
 made_may move.CloneReceiver p c = cloned_may move.CloneReceiver refl c.receivers (record c { receivers = c.receivers + 1 }) c refl refl

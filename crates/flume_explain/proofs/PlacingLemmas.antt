@@ -16,7 +16,7 @@ use Rattle.flume_explain.specs.declared.configuration.Status.{Status}
 use Rattle.flume_explain.specs.declared.configuration.Status.TheVariants.{Waiting, Woken, Filled}
 use Rattle.flume_explain.specs.Configurations.{message_at}
 use Rattle.flume_explain.specs.Mirrors.{entry_for}
-use Rattle.flume_explain.specs.Receives.{round_of, receive_of, without_place}
+use Rattle.flume_explain.specs.Receives.{round_of, receive_at, without_place}
 
 module _ {T A : Type 0} (events : List (Event T A)) (tickets : ℕ → ℕ) where
   -- a receive that is parked at a place
@@ -56,12 +56,12 @@ module _ {T A : Type 0} (events : List (Event T A)) (tickets : ℕ → ℕ) wher
 
   -- the entry of a place
   pub placed_entry : (p : ℕ) (rs : List ParkedReceive) → All (IsAlone p) rs
-      → entry_of (tickets p) (map placed rs) ≡ option_map placed (receive_of p rs)
+      → entry_of (tickets p) (map placed rs) ≡ option_map placed (receive_at p rs)
   placed_entry p [] alone = refl
   placed_entry p (r ∷ rs) alone = by_case (eqb r.place p) refl (placed_entry p rs (All-tail (IsAlone p) r rs alone))
     where
-      by_case : (b : Bool) → eqb r.place p ≡ b → entry_of (tickets p) (map placed rs) ≡ option_map placed (receive_of p rs)
-          → entry_of (tickets p) (map placed (r ∷ rs)) ≡ option_map placed (receive_of p (r ∷ rs))
+      by_case : (b : Bool) → eqb r.place p ≡ b → entry_of (tickets p) (map placed rs) ≡ option_map placed (receive_at p rs)
+          → entry_of (tickets p) (map placed (r ∷ rs)) ≡ option_map placed (receive_at p (r ∷ rs))
       by_case true same rest = let ticket = eqb_by_ticket p r (All-head (IsAlone p) r rs alone) ∙ same in simp (ticket, same) refl
       by_case false other rest = let ticket = eqb_by_ticket p r (All-head (IsAlone p) r rs alone) ∙ other in simp (ticket, other) rest
 

@@ -16,7 +16,7 @@ use Rattle.flume_state.specs.declared.entries.ReceiverStatus.TheVariants.{BlockW
 use Rattle.flume_state.specs.declared.entries.ReceiverStatus.TheVariants.{Waiting as IsWaiting}
 use Rattle.flume_state.specs.declared.entries.ReceiverStatus.TheVariants.{Woken as IsWoken}
 use Rattle.flume_state.specs.Notices.{no_longer_due}
-use Rattle.flume_state.specs.Receivers.{receiver_status, status_by, looks, noticed_receiver}
+use Rattle.flume_state.specs.Receivers.{receiver_status, status_by, looks_at_line, with_receiver_notice}
 use Rattle.flume_state.specs.State.{State as Channel}
 use Rattle.flume_state.specs.Effects.{without_receiver, with_peak, after_take}
 use Rattle.flume_state.specs.Effects.{with_front as with_front_there}
@@ -33,7 +33,7 @@ use Rattle.flume_explain.specs.declared.step_of.Move.TheVariants as move
 use Rattle.flume_explain.specs.Configurations.{State}
 use Rattle.flume_explain.specs.ByPlaces.{closed_now, with_front, take_leaving, without_receive, ask_again}
 use Rattle.flume_explain.specs.ByPlaces.{again_as}
-use Rattle.flume_explain.specs.Receives.{receive_of}
+use Rattle.flume_explain.specs.Receives.{receive_at}
 use Rattle.flume_explain.specs.Outcomes.{ReplyAndState, outcome, receive_outcome_from, poll_line_outcome, leaves_with, poll_outcome_as}
 use Rattle.flume_explain.specs.Outcomes.{poll_outcome_by}
 use Rattle.flume_explain.specs.Mirrors.{Mirrors, Corresponds, mark_of, some_mark}
@@ -57,8 +57,9 @@ module _ {T A : Type 0} (events : List (Event T A)) (o : Opening) (log : Log T A
   Polled answer = Answers events o log tickets s c place (Poll (tickets place)) answer.0 answer.1
 
   -- it is parked no more
-  pub leaves : (step : Step T) (reply_by_place : PlaceReply) (r : Reply T A) → tickets_after reply_by_place place s.next tickets ≡ tickets
-      → Corresponds events s.next c.queue reply_by_place r → Represents o ((step, r) ∷ log) (without_receiver (tickets place) s)
+  pub leaves : (step : Step T) (reply_by_place : PlaceReply) (r : Reply T A)
+      → tickets_after reply_by_place place s.next_ticket tickets ≡ tickets
+      → Corresponds events s.next_ticket c.queue reply_by_place r → Represents o ((step, r) ∷ log) (without_receiver (tickets place) s)
       → Answers events o log tickets s c place step reply_by_place (without_receive place c)
   leaves step reply_by_place r kept corresponds represents = record {
     reply = r;
@@ -95,7 +96,7 @@ module _ {T A : Type 0} (events : List (Event T A)) (o : Opening) (log : Log T A
 
   -- it waits on
   waits_on : Represents o ((Poll (tickets place), own.Waiting) ∷ log)
-      (with_peak (again (tickets place) (noticed_receiver no_longer_due (tickets place) s.entries)) s)
+      (with_peak (again (tickets place) (with_receiver_notice no_longer_due (tickets place) s.entries)) s)
       → Polled (reply.Waiting, ask_again place c)
   waits_on represents = record {
     reply = own.Waiting;
@@ -108,7 +109,7 @@ module _ {T A : Type 0} (events : List (Event T A)) (o : Opening) (log : Log T A
   }
 
   -- one that stands so asks by looking at the line
-  looking : (st : ReceiverStatus) → receiver_status (tickets place) s.entries ≡ Some st → looks (Some st) ≡ true
+  looking : (st : ReceiverStatus) → receiver_status (tickets place) s.entries ≡ Some st → looks_at_line (Some st) ≡ true
       → Polled (leaves_with place (poll_line_outcome place c))
   looking st is look = go (with_front c).queue refl
     where
@@ -133,7 +134,7 @@ module _ {T A : Type 0} (events : List (Event T A)) (o : Opening) (log : Log T A
   -- one with this mark asks
   asks : (k : Kind) (st : Status) (q : ℕ) (m : Mark T) → mark_of events st ≡ some_mark m
       → receiver_status (tickets place) s.entries ≡ Some (status_by k m) → held_by (entry_of (tickets place) s.entries) ≡ held_in m
-      → receive_of place c.receives ≡ Some (record { place = q; kind = k; status = st }) → Polled (poll_outcome_as place k st c)
+      → receive_at place c.receives ≡ Some (record { place = q; kind = k; status = st }) → Polled (poll_outcome_as place k st c)
   asks k (status.Filled p) q m marked is held found =
       let filled = filled_mark events p m marked in
       leaves (Poll (tickets place)) (reply.Got p) (own.Got filled.0) refl filled.2
@@ -161,7 +162,7 @@ module _ {T A : Type 0} (events : List (Event T A)) (o : Opening) (log : Log T A
       looking IsWoken (is ∙ ap (λ x. Some (status_by Arm x)) (woken_mark events m marked)) refl
 
   -- nobody is parked at the place
-  pub gone : (step : Step T) → receive_of place c.receives ≡ None → Represents o ((step, own.NoTicket) ∷ log) s
+  pub gone : (step : Step T) → receive_at place c.receives ≡ None → Represents o ((step, own.NoTicket) ∷ log) s
       → Answers events o log tickets s c place step reply.NoTicket c
   gone step none represents = record {
     reply = own.NoTicket;
@@ -175,9 +176,9 @@ module _ {T A : Type 0} (events : List (Event T A)) (o : Opening) (log : Log T A
 
   -- it asks
   polls : Polled (outcome move.Poll place c)
-  polls = go (receive_of place c.receives) refl
+  polls = go (receive_at place c.receives) refl
     where
-      go : (found : Option ParkedReceive) → receive_of place c.receives ≡ found → Polled (poll_outcome_by place found c)
+      go : (found : Option ParkedReceive) → receive_at place c.receives ≡ found → Polled (poll_outcome_by place found c)
       go None none =
           gone (Poll (tickets place)) none
           (poll_none o log s s (tickets place) h (stands_none events tickets s c place mirrors apart.from_parked none) refl)

@@ -204,7 +204,7 @@ module _ {T A : Type 0} (equal : T → T → Bool) (events : List (Event T A)) (
   parked_after next queue stage reply.NoEnd own.NoEnd h met = refl
   parked_after next queue stage reply.CountFull own.CountFull h met = refl
   parked_after next queue stage (reply.Number n) (own.Number m) h met = refl
-  parked_after next queue stage (reply.Truth n) (own.Truth m) h met = refl
+  parked_after next queue stage (reply.Flag n) (own.Flag m) h met = refl
   parked_after next queue stage (reply.Capacity n) (own.Capacity m) h met = refl
   parked_after next queue stage reply.Unbounded own.Unbounded h met = refl
   parked_after next queue stage _ _ h met = absurd h

@@ -1,10 +1,10 @@
 -- The queries answer as their steps do, and change nothing.
 use Rattle.std.proofs.Common.{◌≡◌, ◌==◌, ap, ap₂, refl, subst, List, length}
 use Rattle.flume_model.specs.declared.step.Step.TheVariants as step
-use Rattle.flume_model.specs.declared.step.Reply.TheVariants.{Number, Truth, Capacity}
+use Rattle.flume_model.specs.declared.step.Reply.TheVariants.{Number, Flag, Capacity}
 use Rattle.flume_model.specs.Limits.{is_closed, is_full}
 use Rattle.flume_concurrent.specs.declared.event.Event.{Event}
-use Rattle.flume_core.proofs.ViewLemmas.{boundary_is}
+use Rattle.flume_core.proofs.ViewLemmas.{queue_len_is}
 use Rattle.flume_explain.specs.declared.step_of.Move.TheVariants as move
 use Rattle.flume_explain.specs.declared.place_reply.PlaceReply.TheVariants as reply
 use Rattle.flume_explain.specs.ByPlaces.{full_now, closed_now}
@@ -19,22 +19,22 @@ module _ {T A : Type 0} (events : List (Event T A)) where
       let same : step.Len ≡ made_step = cc in
       subst (λ done. Answers events o log tickets s c place done (reply.Number (length c.queue)) c) same
       (changes_nothing events o log s c tickets place step.Len (reply.Number (length c.queue)) (Number (length s.queue)) h m new
-      (boundary_is h) refl refl (length_same events tickets s c m))
+      (queue_len_is h) refl refl (length_same events tickets s c m))
 
   pub is_empty_answers : MoveAnswers events move.IsEmpty
   is_empty_answers o log s c tickets place call made_step given h m at is new lawful unrefused =
       let same : step.IsEmpty ≡ made_step = cc in
-      subst (λ done. Answers events o log tickets s c place done (reply.Truth (length c.queue == 0)) c) same
-      (changes_nothing events o log s c tickets place step.IsEmpty (reply.Truth (length c.queue == 0)) (Truth (length s.queue == 0)) h m
-      new (ap (λ n. n == 0) (boundary_is h)) refl refl (ap (λ n. n == 0) (length_same events tickets s c m)))
+      subst (λ done. Answers events o log tickets s c place done (reply.Flag (length c.queue == 0)) c) same
+      (changes_nothing events o log s c tickets place step.IsEmpty (reply.Flag (length c.queue == 0)) (Flag (length s.queue == 0)) h m
+      new (ap (λ n. n == 0) (queue_len_is h)) refl refl (ap (λ n. n == 0) (length_same events tickets s c m)))
 
   pub is_full_answers : MoveAnswers events move.IsFull
   is_full_answers o log s c tickets place call made_step given h m at is new lawful unrefused =
       let same : step.IsFull ≡ made_step = cc in
-      subst (λ done. Answers events o log tickets s c place done (reply.Truth (full_now c)) c) same
-      (changes_nothing events o log s c tickets place step.IsFull (reply.Truth (full_now c))
-      (Truth (is_full s.capacity (length s.queue))) h m new
-      (ap₂ is_full h.capacity_is (boundary_is h)) refl refl (full_same events tickets s c m))
+      subst (λ done. Answers events o log tickets s c place done (reply.Flag (full_now c)) c) same
+      (changes_nothing events o log s c tickets place step.IsFull (reply.Flag (full_now c))
+      (Flag (is_full s.capacity (length s.queue))) h m new
+      (ap₂ is_full h.capacity_is (queue_len_is h)) refl refl (full_same events tickets s c m))
 
   pub capacity_answers : MoveAnswers events move.Capacity
   capacity_answers o log s c tickets place call made_step given h m at is new lawful unrefused =
@@ -60,7 +60,7 @@ module _ {T A : Type 0} (events : List (Event T A)) where
   pub is_disconnected_answers : MoveAnswers events move.IsDisconnected
   is_disconnected_answers o log s c tickets place call made_step given h m at is new lawful unrefused =
       let same : step.IsDisconnected ≡ made_step = cc in
-      subst (λ done. Answers events o log tickets s c place done (reply.Truth (closed_now c)) c) same
-      (changes_nothing events o log s c tickets place step.IsDisconnected (reply.Truth (closed_now c))
-      (Truth (is_closed s.senders s.receivers)) h m new
+      subst (λ done. Answers events o log tickets s c place done (reply.Flag (closed_now c)) c) same
+      (changes_nothing events o log s c tickets place step.IsDisconnected (reply.Flag (closed_now c))
+      (Flag (is_closed s.senders s.receivers)) h m new
       (ap₂ is_closed h.senders_are h.receivers_are) refl refl (closed_same events tickets s c m))

@@ -16,7 +16,7 @@ use Rattle.flume_model.specs.Line.{next_ticket}
 use Rattle.flume_model.specs.Log.{Opening}
 use Rattle.flume_model.specs.Replies.{IsReply}
 use Rattle.flume_core.proofs.ViewLemmas.{queue_at_log}
-use Rattle.flume_history.proofs.WantingLemmas.{want_allowed}
+use Rattle.flume_history.proofs.NoMemoryRuleLemmas.{want_allowed}
 use Rattle.flume_history.specs.HandedIn.{handed_in}
 use Rattle.flume_concurrent.specs.declared.call.Call.{Call}
 use Rattle.flume_concurrent.specs.declared.call.Call.TheVariants as call
@@ -267,7 +267,7 @@ module _ {T A : Type 0} (equal : T → T → Bool) (events : List (Event T A)) w
         let allowed_so : IsAllowed own one.progress move.Poll = may_so (step.Poll n) is in
         let parked_so = allowed_so.0 in (
           same,
-          (ready equal events c t one own move.Poll r.agrees.tickets r.agrees.state.next r.agrees.threads_apart call_is
+          (ready equal events c t one own move.Poll r.agrees.tickets r.agrees.state.next_ticket r.agrees.threads_apart call_is
               (λ refused. absurd (let none : ⊥ = cc in none)) mine.2 r.agrees.parked allowed_so).0.from_parked,
         )
     knows _ is = tt

@@ -114,7 +114,7 @@ module _ {T A : Type 0} (events : List (Event T A)) (o : Opening) (log : Log T A
           let line_empty = empty_line o log s h empty in
           let open_there = open_at_log h open_ in
           record {
-            reply = own.Parked s.next;
+            reply = own.Parked s.next_ticket;
             corresponds = refl;
             state = _;
             represents = parks o log _ s _ kind tt h

@@ -56,7 +56,7 @@ module _ {T A : Type 0} (equal : T → T → Bool) (events : List (Event T A)) (
           (allowed own one.progress other mv chosen) in
           let parked_so = allowed_so.0 in (
             same,
-            (ready equal events c t one own move.Poll tickets outcome.agrees.state.next outcome.agrees.threads_apart outcome.call_is
+            (ready equal events c t one own move.Poll tickets outcome.agrees.state.next_ticket outcome.agrees.threads_apart outcome.call_is
                 (λ refused. absurd (let none : ⊥ = cc in none)) outcome.is_own outcome.agrees.parked allowed_so).0.from_parked,
           )
       knows _ is polls = tt

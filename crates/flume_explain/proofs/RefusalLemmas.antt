@@ -8,7 +8,7 @@ use Rattle.flume_model.specs.declared.step.Step.{Step}
 use Rattle.flume_model.specs.declared.step.Step.TheVariants as step
 use Rattle.flume_model.specs.declared.step.Reply.{Reply}
 use Rattle.flume_model.specs.declared.step.Reply.TheVariants.{NoMemory, Spent}
-use Rattle.flume_model.specs.Asking.{IsPolledMark, IsPolled, IsGoneMark, IsGone}
+use Rattle.flume_model.specs.Asking.{IsPollReplyByMark, IsPollReply, IsWithdrawReplyByMark, IsWithdrawReply}
 use Rattle.flume_model.specs.Channel.{Channel}
 use Rattle.flume_model.specs.Entries.{entry_of}
 use Rattle.flume_model.specs.Log.{Log, Stays, change}
@@ -32,7 +32,7 @@ use Rattle.flume_explain.proofs.MoveFactLemmas.{IsAllowed, move_for}
 
 module _ {T : Type 0} (A : Type 0) (c : Channel T) where
   -- a receive that leaves is never refused
-  gone_mark : (t : ℕ) (kind : Kind) (mark : Mark T) (r : Reply T A) → is_refusal r ≡ true → IsGoneMark c t kind mark r → ⊥
+  gone_mark : (t : ℕ) (kind : Kind) (mark : Mark T) (r : Reply T A) → is_refusal r ≡ true → IsWithdrawReplyByMark c t kind mark r → ⊥
   gone_mark t kind (mark.Filled held) (NoMemory back) e h = h
   gone_mark t kind (mark.Filled held) (Spent back) e h = h
   gone_mark t Block mark.Waiting (NoMemory back) e h = h
@@ -45,21 +45,21 @@ module _ {T : Type 0} (A : Type 0) (c : Channel T) where
   gone_mark t _ mark.Woken (Spent back) e h = h
   gone_mark t kind mark _ e h = let none : ⊥ = cc in none
 
-  gone : (t : ℕ) (found : Option (LogEntry T)) (r : Reply T A) → is_refusal r ≡ true → IsGone c t found r → ⊥
+  gone : (t : ℕ) (found : Option (LogEntry T)) (r : Reply T A) → is_refusal r ≡ true → IsWithdrawReply c t found r → ⊥
   gone t None (NoMemory back) e h = h
   gone t None (Spent back) e h = h
   gone t None _ e h = let none : ⊥ = cc in none
   gone t (Some x) r e h = gone_mark t x.kind x.mark r e h
 
   -- one that asks doesn't want for tickets
-  polled_mark : (kind : Kind) (mark : Mark T) (back : Option T) → IsPolledMark {A = A} c kind mark (Spent back) → ⊥
+  polled_mark : (kind : Kind) (mark : Mark T) (back : Option T) → IsPollReplyByMark {A = A} c kind mark (Spent back) → ⊥
   polled_mark kind (mark.Filled held) back h = h
   polled_mark Block mark.Waiting back h = h
   polled_mark Block mark.Woken back h = h
   polled_mark _ mark.Waiting back h = h
   polled_mark _ mark.Woken back h = h
 
-  polled : (found : Option (LogEntry T)) (back : Option T) → IsPolled {A = A} c found (Spent back) → ⊥
+  polled : (found : Option (LogEntry T)) (back : Option T) → IsPollReply {A = A} c found (Spent back) → ⊥
   polled None back h = h
   polled (Some x) back h = polled_mark x.kind x.mark back h
 

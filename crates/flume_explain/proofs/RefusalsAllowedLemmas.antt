@@ -15,16 +15,16 @@ use Rattle.flume_state.specs.Receivers.{receiver_status, status_by, only_leaves}
 use Rattle.flume_state.specs.Effects.{with_front}
 use Rattle.flume_state.specs.State.{State as Channel, offers_of}
 use Rattle.flume_core.specs.Represents.{Represents}
-use Rattle.flume_core.specs.Wanting.{NoMemoryIsLawful}
+use Rattle.flume_core.specs.NoMemoryRule.{NoMemoryIsLawful}
 use Rattle.flume_concurrent.specs.declared.event.Event.{Event}
 use Rattle.flume_explain.specs.declared.configuration.ParkedReceive.{ParkedReceive}
 use Rattle.flume_explain.specs.declared.configuration.Status.{Status}
 use Rattle.flume_explain.specs.declared.configuration.Status.TheVariants.{Waiting, Woken, Filled}
 use Rattle.flume_explain.specs.Configurations.{State}
 use Rattle.flume_explain.specs.ByPlaces.{closed_now, full_now, some_waits}
-use Rattle.flume_explain.specs.Receives.{receive_of}
+use Rattle.flume_explain.specs.Receives.{receive_at}
 use Rattle.flume_explain.specs.Mirrors.{Mirrors, mark_of, some_mark, some_offer, offer_for}
-use Rattle.flume_explain.specs.Refusals.{looks, is_looking, some_blocked, some_queued, may_be_refused}
+use Rattle.flume_explain.specs.Refusals.{looks_at_line, is_looking, some_blocked, some_queued, may_be_refused}
 use Rattle.flume_explain.proofs.MirrorReceiveLemmas.{waiting_mark, woken_mark, stands_as}
 use Rattle.flume_explain.proofs.MirrorViewLemmas.{closed_same, length_same, full_same, waits_same}
 use Rattle.flume_explain.proofs.MoveFactLemmas.{move_for}
@@ -94,7 +94,7 @@ module _ {T A : Type 0} (events : List (Event T A)) (o : Opening) (log : Log T A
       let blocked : s.blocked ≡ [] = empty_by s.blocked none in
       rw (queue, blocked) refl
 
-  looks_so : (k : Kind) (st : Status) (m : Mark T) → mark_of events st ≡ some_mark m → looks k st ≡ true
+  looks_so : (k : Kind) (st : Status) (m : Mark T) → mark_of events st ≡ some_mark m → looks_at_line k st ≡ true
       → only_leaves (Some (status_by k m)) ≡ true
   looks_so k (Filled p) m is on = absurd (false≢true on)
   looks_so Block Waiting m is on = absurd (false≢true on)
@@ -109,18 +109,18 @@ module _ {T A : Type 0} (events : List (Event T A)) (o : Opening) (log : Log T A
   -- what is known of who asks, and that a ticket is left for who parks
   abbrev pub KnowsMove : Step T → Type 0
   KnowsMove (step.Poll t) = (t ≡ tickets place) × All (IsAlone events tickets place) c.receives
-  KnowsMove (step.Send m) = s.next < most
-  KnowsMove (step.Recv kind) = s.next < most
+  KnowsMove (step.Send m) = s.next_ticket < most
+  KnowsMove (step.Recv kind) = s.next_ticket < most
   KnowsMove _ = Unit {0}
 
-  looking : (found : Option ParkedReceive) → receive_of place c.receives ≡ found → is_looking found ≡ true
+  looking : (found : Option ParkedReceive) → receive_at place c.receives ≡ found → is_looking found ≡ true
       → All (IsAlone events tickets place) c.receives → only_leaves (receiver_status (tickets place) s.entries) ≡ true
   looking None at on alone = absurd (false≢true on)
   looking (Some r) at on alone =
       let entry = stands_as events tickets s c place corresponds alone r at in
       ap only_leaves entry.represents ∙ looks_so r.kind r.status entry.marked entry.is on
 
-  receive_so : (kind : Kind) → s.next < most → (n : ℕ) → length s.blocked ≡ n
+  receive_so : (kind : Kind) → s.next_ticket < most → (n : ℕ) → length s.blocked ≡ n
       → (some_blocked c ≡ true) ⊎ ((not (some_queued c) && not (closed_now c)) ≡ true) → NoMemoryIsLawful s (step.Recv kind)
   receive_so kind left n is (inl some_) = inl (blocked_so some_)
   receive_so kind left zero is (inr nothing) =
@@ -141,9 +141,9 @@ module _ {T A : Type 0} (events : List (Event T A)) (o : Opening) (log : Log T A
   may_want (step.Recv kind) may knows =
       receive_so kind knows (length s.blocked) refl (one_of (some_blocked c) (not (some_queued c) && not (closed_now c)) may)
   may_want (step.Poll t) may knows =
-      let two = both (some_blocked c) (is_looking (receive_of place c.receives)) may in (
+      let two = both (some_blocked c) (is_looking (receive_at place c.receives)) may in (
         subst (λ n. only_leaves (receiver_status n s.entries) ≡ true) (sym knows.0)
-            (looking (receive_of place c.receives) refl two.1 knows.1),
+            (looking (receive_at place c.receives) refl two.1 knows.1),
         blocked_so two.0,
       )
   may_want step.Drain may knows = queued_so may

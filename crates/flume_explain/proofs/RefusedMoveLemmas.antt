@@ -14,19 +14,19 @@ use Rattle.flume_model.specs.declared.step.Step.{Step}
 use Rattle.flume_model.specs.declared.step.Step.TheVariants as step
 use Rattle.flume_model.specs.declared.step.Reply.{Reply}
 use Rattle.flume_model.specs.declared.step.Reply.TheVariants.{NoMemory, Spent}
-use Rattle.flume_model.specs.Asking.{IsPolledMark, IsPolled}
+use Rattle.flume_model.specs.Asking.{IsPollReplyByMark, IsPollReply}
 use Rattle.flume_model.specs.Channel.{channel, TakesIn}
 use Rattle.flume_model.specs.Counts.{senders, receivers}
 use Rattle.flume_model.specs.Entries.{entry_of, some_wait}
 use Rattle.flume_model.specs.Limits.{IsOpen, HasRoom, is_closed, is_full, most}
-use Rattle.flume_model.specs.Line.{line, messages, boundary, capacity, next_ticket}
+use Rattle.flume_model.specs.Line.{line, messages, queue_len, capacity, next_ticket}
 use Rattle.flume_model.specs.Log.{Log, Opening}
 use Rattle.flume_model.specs.Parked.{LogEntry, entries}
 use Rattle.flume_model.specs.Replies.{IsReply}
 use Rattle.flume_state.specs.State.{State as Channel, bare, offers_of}
 use Rattle.flume_core.specs.Represents.{Represents}
 use Rattle.flume_core.proofs.BareEntryLemmas.{bare_entry}
-use Rattle.flume_core.proofs.ViewLemmas.{line_messages, boundary_is, waiting_at_log, entry_at_log}
+use Rattle.flume_core.proofs.ViewLemmas.{line_messages, queue_len_is, waiting_at_log, entry_at_log}
 use Rattle.flume_concurrent.specs.declared.call.Call.{Call}
 use Rattle.flume_concurrent.specs.declared.event.Event.{Event}
 use Rattle.flume_explain.specs.declared.configuration.ParkedReceive.{ParkedReceive}
@@ -36,10 +36,10 @@ use Rattle.flume_explain.specs.declared.step_of.Move.{Move}
 use Rattle.flume_explain.specs.declared.step_of.Move.TheVariants as move
 use Rattle.flume_explain.specs.Configurations.{State}
 use Rattle.flume_explain.specs.ByPlaces.{closed_now, full_now, some_waits}
-use Rattle.flume_explain.specs.Receives.{receive_of}
+use Rattle.flume_explain.specs.Receives.{receive_at}
 use Rattle.flume_explain.specs.Mirrors.{Mirrors, mark_of, some_mark, some_entry, some_offer, entry_for, offer_for}
 use Rattle.flume_explain.specs.Moves.{is_refusal, step_for}
-use Rattle.flume_explain.specs.Refusals.{looks, is_looking, some_blocked, some_queued, may_be_refused}
+use Rattle.flume_explain.specs.Refusals.{looks_at_line, is_looking, some_blocked, some_queued, may_be_refused}
 use Rattle.flume_explain.proofs.MirrorViewLemmas.{closed_same, length_same, full_same, waits_same}
 use Rattle.flume_explain.proofs.MirrorReceiveLemmas.{waiting_mark, woken_mark, filled_mark}
 use Rattle.flume_explain.proofs.MoveFactLemmas.{move_for, step_move}
@@ -108,18 +108,18 @@ module _ {T A : Type 0} (events : List (Event T A)) (o : Opening) (log : Log T A
       ∙ ap (λ n. length s.queue + n) (length-map s.blocked (λ b. b.message))
 
   -- if the line goes on past the queue, a send is blocked
-  blocked_here : boundary o log < length (messages (line log)) → some_blocked c ≡ true
+  blocked_here : queue_len o log < length (messages (line log)) → some_blocked c ≡ true
   blocked_here more =
       let a = whole in
       let b = same_blocked in
-      let d = boundary_is h in
+      let d = queue_len_is h in
       some (length c.blocked) (omega arith)
 
   -- if some of it is queued, a message is
-  queued_here : 0 < boundary o log → some_queued c ≡ true
+  queued_here : 0 < queue_len o log → some_queued c ≡ true
   queued_here more =
       let a = length_same events tickets s c corresponds in
-      let d = boundary_is h in
+      let d = queue_len_is h in
       some (length c.queue) (omega arith)
 
   -- if there is no line, none is
@@ -135,40 +135,41 @@ module _ {T A : Type 0} (events : List (Event T A)) (o : Opening) (log : Log T A
   room_here : TakesIn (channel o log) → not (not (some_waits c.receives) && full_now c) ≡ true
   room_here takes = room_or_waits (some_waits c.receives) (full_now c)
       (λ none. full_same events tickets s c corresponds ∙ not_full s.capacity (length s.queue)
-      (subst (λ n. HasRoom s.capacity n) (sym (boundary_is h)) (subst (λ n. HasRoom n (boundary o log)) (sym h.capacity_is)
+      (subst (λ n. HasRoom s.capacity n) (sym (queue_len_is h)) (subst (λ n. HasRoom n (queue_len o log)) (sym h.capacity_is)
       (takes.1 (waiting_at_log h ∙ sym (waits_same events tickets s c corresponds) ∙ none)))))
 
   -- a parked receive that is refused memory looks at the line
   refused_mark : (k : Kind) (st : Status) (m : Mark T) (back : Option T) → mark_of events st ≡ some_mark m
-      → IsPolledMark {A = A} (channel o log) k m (NoMemory back) → (looks k st ≡ true) × (boundary o log < length (messages (line log)))
+      → IsPollReplyByMark {A = A} (channel o log) k m (NoMemory back)
+      → (looks_at_line k st ≡ true) × (queue_len o log < length (messages (line log)))
   refused_mark k (Filled p) m back is polled =
       let filled = filled_mark events p m is in
-      absurd (subst (λ x. IsPolledMark {A = A} (channel o log) k x (NoMemory back)) filled.1 polled)
+      absurd (subst (λ x. IsPollReplyByMark {A = A} (channel o log) k x (NoMemory back)) filled.1 polled)
   refused_mark Block Waiting m back is polled =
-      absurd (subst (λ x. IsPolledMark {A = A} (channel o log) Block x (NoMemory back)) (waiting_mark events m is) polled)
+      absurd (subst (λ x. IsPollReplyByMark {A = A} (channel o log) Block x (NoMemory back)) (waiting_mark events m is) polled)
   refused_mark Block Woken m back is polled =
-      absurd (subst (λ x. IsPolledMark {A = A} (channel o log) Block x (NoMemory back)) (woken_mark events m is) polled)
+      absurd (subst (λ x. IsPollReplyByMark {A = A} (channel o log) Block x (NoMemory back)) (woken_mark events m is) polled)
   refused_mark Plain Waiting m back is polled =
-      (refl, (subst (λ x. IsPolledMark {A = A} (channel o log) Plain x (NoMemory back)) (waiting_mark events m is) polled).0)
+      (refl, (subst (λ x. IsPollReplyByMark {A = A} (channel o log) Plain x (NoMemory back)) (waiting_mark events m is) polled).0)
   refused_mark Plain Woken m back is polled =
-      (refl, (subst (λ x. IsPolledMark {A = A} (channel o log) Plain x (NoMemory back)) (woken_mark events m is) polled).0)
+      (refl, (subst (λ x. IsPollReplyByMark {A = A} (channel o log) Plain x (NoMemory back)) (woken_mark events m is) polled).0)
   refused_mark Stream Waiting m back is polled =
-      (refl, (subst (λ x. IsPolledMark {A = A} (channel o log) Stream x (NoMemory back)) (waiting_mark events m is) polled).0)
+      (refl, (subst (λ x. IsPollReplyByMark {A = A} (channel o log) Stream x (NoMemory back)) (waiting_mark events m is) polled).0)
   refused_mark Stream Woken m back is polled =
-      (refl, (subst (λ x. IsPolledMark {A = A} (channel o log) Stream x (NoMemory back)) (woken_mark events m is) polled).0)
+      (refl, (subst (λ x. IsPollReplyByMark {A = A} (channel o log) Stream x (NoMemory back)) (woken_mark events m is) polled).0)
   refused_mark Arm Waiting m back is polled =
-      (refl, (subst (λ x. IsPolledMark {A = A} (channel o log) Arm x (NoMemory back)) (waiting_mark events m is) polled).0)
+      (refl, (subst (λ x. IsPollReplyByMark {A = A} (channel o log) Arm x (NoMemory back)) (waiting_mark events m is) polled).0)
   refused_mark Arm Woken m back is polled =
-      (refl, (subst (λ x. IsPolledMark {A = A} (channel o log) Arm x (NoMemory back)) (woken_mark events m is) polled).0)
+      (refl, (subst (λ x. IsPollReplyByMark {A = A} (channel o log) Arm x (NoMemory back)) (woken_mark events m is) polled).0)
 
   -- it looks at the line, past the queue
   abbrev Looks : Option ParkedReceive → Type 0
-  Looks found = (is_looking found ≡ true) × (boundary o log < length (messages (line log)))
+  Looks found = (is_looking found ≡ true) × (queue_len o log < length (messages (line log)))
 
   -- by its entry
   refused_entry : (found : Option ParkedReceive) (entry : Option (LogEntry T)) (back : Option T)
       → option_map (entry_for events tickets) found ≡ option_map some_entry entry
-      → IsPolled {A = A} (channel o log) entry (NoMemory back) → Looks found
+      → IsPollReply {A = A} (channel o log) entry (NoMemory back) → Looks found
   refused_entry None None back same polled = absurd polled
   refused_entry None (Some e) back same polled = absurd (let none : ⊥ = cc in none)
   refused_entry (Some r) None back same polled = absurd (let none : ⊥ = cc in none)
@@ -176,10 +177,10 @@ module _ {T A : Type 0} (events : List (Event T A)) (o : Opening) (log : Log T A
       let is : entry_for events tickets r ≡ some_entry e = cc in
       let kind : r.kind ≡ e.kind = ap (λ x. x.kind) is in
       refused_mark r.kind r.status e.mark back (ap (λ x. x.mark) is)
-      (subst (λ k. IsPolledMark {A = A} (channel o log) k e.mark (NoMemory back)) (sym kind) polled)
+      (subst (λ k. IsPollReplyByMark {A = A} (channel o log) k e.mark (NoMemory back)) (sym kind) polled)
 
   -- one that asks doesn't want for tickets
-  spent_mark : (k : Kind) (m : Mark T) (back : Option T) → IsPolledMark {A = A} (channel o log) k m (Spent back) → ⊥
+  spent_mark : (k : Kind) (m : Mark T) (back : Option T) → IsPollReplyByMark {A = A} (channel o log) k m (Spent back) → ⊥
   spent_mark k (mark.Filled held) back polled = polled
   spent_mark Block mark.Waiting back polled = polled
   spent_mark Block mark.Woken back polled = polled
@@ -187,7 +188,7 @@ module _ {T A : Type 0} (events : List (Event T A)) (o : Opening) (log : Log T A
   spent_mark _ mark.Woken back polled = polled
 
   -- by its entry
-  spent_entry : (entry : Option (LogEntry T)) (back : Option T) → IsPolled {A = A} (channel o log) entry (Spent back) → ⊥
+  spent_entry : (entry : Option (LogEntry T)) (back : Option T) → IsPollReply {A = A} (channel o log) entry (Spent back) → ⊥
   spent_entry None back polled = polled
   spent_entry (Some e) back polled = spent_mark e.kind e.mark back polled
 
@@ -206,7 +207,7 @@ module _ {T A : Type 0} (events : List (Event T A)) (o : Opening) (log : Log T A
   refused_here step.TryRecv (NoMemory back) e lawful knows = blocked_here lawful.0
   refused_here (step.Recv kind) (NoMemory back) e lawful knows = by lawful.0
     where
-      by : (boundary o log < length (messages (line log))) ⊎ ((messages (line log) ≡ []) × IsOpen (senders log) (receivers log)
+      by : (queue_len o log < length (messages (line log))) ⊎ ((messages (line log) ≡ []) × IsOpen (senders log) (receivers log)
           × (next_ticket o log < most))
           → (some_blocked c || (not (some_queued c) && not (closed_now c))) ≡ true
       by (inl more) = first (some_blocked c) (not (some_queued c) && not (closed_now c)) (blocked_here more)
@@ -218,9 +219,9 @@ module _ {T A : Type 0} (events : List (Event T A)) (o : Opening) (log : Log T A
   refused_here (step.Poll t) (NoMemory back) e lawful knows =
       let found = sym (placed_entry events tickets place c.receives knows.1) ∙ ap (entry_of (tickets place)) corresponds.receives_are
       ∙ some_entry_of (tickets place) (map bare s.entries) ∙ ap (λ l. option_map some_entry (entry_of (tickets place) l)) h.entries_are in
-      let k = refused_entry (receive_of place c.receives) (entry_of (tickets place) (entries o log)) back found
-      (subst (λ n. IsPolled {A = A} (channel o log) (entry_of n (entries o log)) (NoMemory back)) knows.0 lawful) in
-      both (some_blocked c) (is_looking (receive_of place c.receives)) (blocked_here k.1) k.0
+      let k = refused_entry (receive_at place c.receives) (entry_of (tickets place) (entries o log)) back found
+      (subst (λ n. IsPollReply {A = A} (channel o log) (entry_of n (entries o log)) (NoMemory back)) knows.0 lawful) in
+      both (some_blocked c) (is_looking (receive_at place c.receives)) (blocked_here k.1) k.0
   refused_here (step.Poll t) (Spent back) e lawful knows = absurd (spent_entry (entry_of t (entries o log)) back lawful)
   refused_here step.Drain (NoMemory back) e lawful knows = queued_here lawful.0
   refused_here (step.Withdraw t) r e lawful knows = absurd (false≢true (refused_may A (channel o log) (step.Withdraw t) r e lawful))

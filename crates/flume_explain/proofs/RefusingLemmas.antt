@@ -122,7 +122,8 @@ module _ {T A : Type 0} (equal : T → T → Bool) (events : List (Event T A))
       (still o (steps_in past) (step, reply) h.agrees.state h.agrees.state h.agrees.represents h.lawful
       (refused_stays (steps_in past) step reply h.refused_is) refl)
       (mirrors_calls events h.agrees.tickets h.agrees.state c (calls_with_progress one.place q c.calls) h.agrees.channel)
-      (parked_if events c (with_progress one.place q c) t one q h.is_own refl h.agrees.tickets h.agrees.state.next h.agrees.state.next
+      (parked_if events c (with_progress one.place q c) t one q h.is_own refl h.agrees.tickets h.agrees.state.next_ticket
+      h.agrees.state.next_ticket
       h.agrees.parked (omega arith) false (λ e. absurd (let none : ⊥ = cc in none)) (λ off on. sym parks_so ∙ on)
       (All-weaker (λ p. parked_at c.calls p ≡ true) (IsLeftParked c.calls one.place q) left_parked c.blocked h.agrees.parked.blocked_parked)
       (All-weaker (λ (r : ParkedReceive). parked_at c.calls r.place ≡ true) (λ r. IsLeftParked c.calls one.place q r.place)

@@ -45,7 +45,7 @@ module _ {T A : Type 0} where
         sends_are = λ t. h.sends_are t ∙ ap (λ (c : Channel T). status_in c t) e;
         entries_are = h.entries_are ∙ ap (λ c. c.entries) e;
         peak_is = h.peak_is ∙ ap (λ c. max (peak o past) (waiting_count c.entries)) e;
-        next_is = h.next_is ∙ ap (λ c. c.next) e;
+        next_is = h.next_is ∙ ap (λ c. c.next_ticket) e;
         senders_are = h.senders_are ∙ ap (λ c. c.senders) e;
         receivers_are = h.receivers_are ∙ ap (λ c. c.receivers) e;
       }

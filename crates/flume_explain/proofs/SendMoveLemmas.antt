@@ -30,8 +30,8 @@ use Rattle.flume_explain.specs.declared.place_reply.PlaceReply.{PlaceReply}
 use Rattle.flume_explain.specs.declared.place_reply.PlaceReply.TheVariants as reply
 use Rattle.flume_explain.specs.declared.step_of.Move.TheVariants as move
 use Rattle.flume_explain.specs.Configurations.{State, message_at}
-use Rattle.flume_explain.specs.ByPlaces.{closed_now, full_now, some_waits, join}
-use Rattle.flume_explain.specs.Outcomes.{outcome, offer_outcome}
+use Rattle.flume_explain.specs.ByPlaces.{closed_now, full_now, some_waits, push}
+use Rattle.flume_explain.specs.Outcomes.{outcome, send_outcome}
 use Rattle.flume_explain.specs.Mirrors.{Mirrors, offer_for, some_offer, Corresponds}
 use Rattle.flume_explain.proofs.MoveAnswers.{Answers, with_ticket, parks, IsPlaceAfter}
 use Rattle.flume_explain.specs.Moves.{is_refusal}
@@ -81,24 +81,24 @@ module _ {T A : Type 0} (events : List (Event T A)) (tickets : ℕ → ℕ) wher
   -- one more send is blocked, under a new ticket
   mirror_block : (s : Channel T (Unit {0})) (c : State) (place : ℕ) (m : T) → Mirrors events tickets s c → message_at events place ≡ Some m
       → IsNew place c
-      → Mirrors events (with_ticket place s.next tickets) (record s {
-        blocked = s.blocked ++ record { ticket = s.next; message = m } ∷ [];
-        sends = insert s.sends s.next (blocked_send tt);
-        next = s.next + 1;
+      → Mirrors events (with_ticket place s.next_ticket tickets) (record s {
+        blocked = s.blocked ++ record { ticket = s.next_ticket; message = m } ∷ [];
+        sends = insert s.sends s.next_ticket (blocked_send tt);
+        next_ticket = s.next_ticket + 1;
       }) (record c { blocked = c.blocked ++ place ∷ [] })
   mirror_block s c place m h sent new =
-      let own_ticket = ticketed_itself place s.next tickets in
+      let own_ticket = ticketed_itself place s.next_ticket tickets in
       record {
         capacity_is = h.capacity_is;
         senders_are = h.senders_are;
         receivers_are = h.receivers_are;
         queue_is = h.queue_is;
-        blocked_are = map_push (offer_for events (with_ticket place s.next tickets)) c.blocked place
-            ∙ ap₂ (λ l x. l ++ x ∷ []) (offers_kept events place s.next tickets c.blocked new.not_blocked ∙ h.blocked_are)
+        blocked_are = map_push (offer_for events (with_ticket place s.next_ticket tickets)) c.blocked place
+            ∙ ap₂ (λ l x. l ++ x ∷ []) (offers_kept events place s.next_ticket tickets c.blocked new.not_blocked ∙ h.blocked_are)
             (ap₂ (λ x t. record { message = x; ticket = Some t }) sent own_ticket)
-            ∙ sym (map_push some_offer (offers_of s.blocked) (record { message = m; ticket = Some s.next }))
-            ∙ sym (ap (map some_offer) (map_push _ s.blocked (record { ticket = s.next; message = m })));
-        receives_are = entries_kept events place s.next tickets c.receives new.not_parked ∙ h.receives_are;
+            ∙ sym (map_push some_offer (offers_of s.blocked) (record { message = m; ticket = Some s.next_ticket }))
+            ∙ sym (ap (map some_offer) (map_push _ s.blocked (record { ticket = s.next_ticket; message = m })));
+        receives_are = entries_kept events place s.next_ticket tickets c.receives new.not_parked ∙ h.receives_are;
       }
 
 module _ {T A : Type 0} (events : List (Event T A)) (o : Opening) (log : Log T A) (s : Channel T (Unit {0})) (c : State) (tickets : ℕ → ℕ)
@@ -109,7 +109,7 @@ module _ {T A : Type 0} (events : List (Event T A)) (o : Opening) (log : Log T A
 
   -- nothing changes
   pub answers_unchanged : (step : Step T) (reply_by_place : PlaceReply) (back : Reply T A) → parks reply_by_place ≡ false
-      → Corresponds events s.next c.queue reply_by_place back
+      → Corresponds events s.next_ticket c.queue reply_by_place back
       → IsReply (channel o log) step back → change log step back ≡ Stays → IsAnswered step (reply_by_place, c)
   answers_unchanged step reply_by_place back none alike_ lawful stays = record {
     reply = back;
@@ -117,7 +117,7 @@ module _ {T A : Type 0} (events : List (Event T A)) (o : Opening) (log : Log T A
     state = s;
     represents = still o log (step, back) s s h lawful stays refl;
     mirrors = subst (λ ts. Mirrors events ts s c)
-        (sym (cond-false (parks reply_by_place) (with_ticket place s.next tickets) tickets none)) corresponds;
+        (sym (cond-false (parks reply_by_place) (with_ticket place s.next_ticket tickets) tickets none)) corresponds;
     blocked_after = all_left reply_by_place place c.blocked new.not_blocked;
     receives_after = all_left reply_by_place place (map (λ r. r.place) c.receives) (none_of place c.receives new.not_parked);
   }
@@ -129,7 +129,7 @@ module _ {T A : Type 0} (events : List (Event T A)) (o : Opening) (log : Log T A
       → ((filled : Option ℕ) → TakesIn (channel o log) → filled ≡ round_fills (entries o log)
       → IsReply {A = A} (channel o log) step (own.Sent filled))
       → ((filled : Option ℕ) → change log step (own.Sent filled) ≡ Queues m filled)
-      → IsAnswered step (offer_outcome no_room place c)
+      → IsAnswered step (send_outcome no_room place c)
   offered_answers step m no_room sent shut none_in lawful changes =
       cond_both (closed_now c) _ _ (IsAnswered step) (λ closed. shut (closed_if _ _ (sym (closed_same events tickets s c corresponds)
       ∙ closed)))
@@ -146,7 +146,7 @@ module _ {T A : Type 0} (events : List (Event T A)) (o : Opening) (log : Log T A
           (full_if _ _ (sym (full_same events tickets s c corresponds) ∙ full.1))
 
       joins : IsOpen s.senders s.receivers → (not (some_waits c.receives) ≡ false) ⊎ (full_now c ≡ false)
-          → IsAnswered step (reply.Sent, join place c)
+          → IsAnswered step (reply.Sent, push place c)
       joins open_ room =
           let filled = round_for_fills (s.queue ++ m ∷ []) s.entries in
           let fills = fills_at_log h m in
@@ -178,19 +178,19 @@ module _ {T A : Type 0} (events : List (Event T A)) (o : Opening) (log : Log T A
   answers_full m none_in = answers_unchanged (step.TrySend m) reply.Full (own.Full m) refl tt (none_in, refl) refl
 
   -- there is no room, so the send is blocked
-  answers_pending : (m : T) → message_at events place ≡ Some m → s.next < most → TakesNoneIn (channel o log)
+  answers_pending : (m : T) → message_at events place ≡ Some m → s.next_ticket < most → TakesNoneIn (channel o log)
       → IsAnswered (step.Send m) (reply.Pending, record c { blocked = c.blocked ++ place ∷ [] })
   answers_pending m sent left none_in =
       let new_state = record s {
-        blocked = s.blocked ++ record { ticket = s.next; message = m } ∷ [];
-        sends = insert s.sends s.next (blocked_send tt);
-        next = s.next + 1;
+        blocked = s.blocked ++ record { ticket = s.next_ticket; message = m } ∷ [];
+        sends = insert s.sends s.next_ticket (blocked_send tt);
+        next_ticket = s.next_ticket + 1;
       } in
       record {
-        reply = own.Pending s.next;
+        reply = own.Pending s.next_ticket;
         corresponds = refl;
         state = new_state;
-        represents = blocks o log (step.Send m, own.Pending s.next) s new_state m tt s.space h
+        represents = blocks o log (step.Send m, own.Pending s.next_ticket) s new_state m tt s.space h
             (none_in, omega (arith, h.next_is, left), h.next_is) refl refl;
         mirrors = mirror_block events tickets s c place m corresponds sent new;
         blocked_after = one_joins reply.Pending place c.blocked new.not_blocked;
@@ -199,7 +199,7 @@ module _ {T A : Type 0} (events : List (Event T A)) (o : Opening) (log : Log T A
 
   -- if a channel that takes no send in answers one without a want, a ticket is left
   ticket_left : (m : T) (given : Reply T A) → IsReply (channel o log) (step.Send m) given → is_refusal given ≡ false
-      → TakesNoneIn (channel o log) → s.next < most
+      → TakesNoneIn (channel o log) → s.next_ticket < most
   ticket_left m (own.Sent filled) lawful memory none_in =
       absurd (room_or_full _ _ (lawful.0.1 none_in.1) none_in.2)
   ticket_left m (own.Pending t) lawful memory none_in = let left = lawful.1 in omega (arith, h.next_is, left)
@@ -210,7 +210,7 @@ module _ {T A : Type 0} (events : List (Event T A)) (o : Opening) (log : Log T A
   ticket_left m _ lawful memory none_in = absurd lawful
 
   -- a send that doesn't wait
-  try_send_answers : (m : T) → message_at events place ≡ Some m → IsAnswered (step.TrySend m) (offer_outcome (reply.Full, c) place c)
+  try_send_answers : (m : T) → message_at events place ≡ Some m → IsAnswered (step.TrySend m) (send_outcome (reply.Full, c) place c)
   try_send_answers m sent =
       offered_answers (step.TrySend m) m (reply.Full, c) sent
       (λ shut. answers_unchanged (step.TrySend m) reply.Closed (own.Closed m) refl tt (closed_at_log h shut, refl) refl) (answers_full m)
@@ -219,7 +219,7 @@ module _ {T A : Type 0} (events : List (Event T A)) (o : Opening) (log : Log T A
   -- a send that may be blocked
   send_answers : (m : T) (given : Reply T A) → message_at events place ≡ Some m → IsReply (channel o log) (step.Send m) given
       → is_refusal given ≡ false
-      → IsAnswered (step.Send m) (offer_outcome (reply.Pending, record c { blocked = c.blocked ++ place ∷ [] }) place c)
+      → IsAnswered (step.Send m) (send_outcome (reply.Pending, record c { blocked = c.blocked ++ place ∷ [] }) place c)
   send_answers m given sent lawful memory =
       offered_answers (step.Send m) m _ sent
       (λ shut. answers_unchanged (step.Send m) reply.Closed (own.Closed m) refl tt (closed_at_log h shut, refl) refl)

@@ -12,7 +12,7 @@ use Rattle.flume_model.specs.declared.step.Step.{Step}
 use Rattle.flume_model.specs.declared.step.Step.TheVariants as step
 use Rattle.flume_model.specs.declared.step.Reply.{Reply}
 use Rattle.flume_model.specs.declared.step.Reply.TheVariants as reply
-use Rattle.flume_model.specs.Asking.{IsPolledMark, IsPolled, IsGoneMark, IsGone}
+use Rattle.flume_model.specs.Asking.{IsPollReplyByMark, IsPollReply, IsWithdrawReplyByMark, IsWithdrawReply}
 use Rattle.flume_model.specs.Channel.{Channel, channel, TakesIn, TakesNoneIn, has_ticket}
 use Rattle.flume_model.specs.Counts.{senders, receivers, senders_after, receivers_after}
 use Rattle.flume_model.specs.Entries.{entry_of, round_fills, some_wait, leave_fills}
@@ -183,21 +183,21 @@ module _ {T : Type 0} (c : Channel T) where
   offered : Offered
   offered = go (closed_or_open c.senders c.receivers)
     where
-      room : IsOpen c.senders c.receivers → (b : Bool) → some_wait c.entries ≡ b → IsAtCapacity c.capacity c.boundary
-          ⊎ HasRoom c.capacity c.boundary → Offered
+      room : IsOpen c.senders c.receivers → (b : Bool) → some_wait c.entries ≡ b → IsAtCapacity c.capacity c.queue_len
+          ⊎ HasRoom c.capacity c.queue_len → Offered
       room open_ true waits k = inr (inl (open_, λ none. absurd (let no_one : ⊥ = cc in no_one)))
       room open_ false waits (inl full) = inr (inr (open_, waits, full))
       room open_ false waits (inr has) = inr (inl (open_, λ none. has))
 
       go : IsClosed c.senders c.receivers ⊎ IsOpen c.senders c.receivers → Offered
       go (inl closed) = inl closed
-      go (inr open_) = room open_ (some_wait c.entries) refl (full_or_room c.capacity c.boundary)
+      go (inr open_) = room open_ (some_wait c.entries) refl (full_or_room c.capacity c.queue_len)
 
 module _ {T : Type 0} (A : Type 0) (c : Channel T) where
   -- what has to be so for a step: a ticket is left, or there is a list of the queued messages
   abbrev pub MayBeGiven : Step T → Type 0
-  MayBeGiven (step.Send m) = c.next < most
-  MayBeGiven (step.Recv kind) = c.next < most
+  MayBeGiven (step.Send m) = c.next_ticket < most
+  MayBeGiven (step.Recv kind) = c.next_ticket < most
   MayBeGiven step.Drain = (list : Vec T A) × (list.items ≡ c.queue)
   MayBeGiven _ = Unit {0}
 
@@ -211,10 +211,10 @@ module _ {T A : Type 0} (c : Channel T) where
   tried m (inr (inl takes)) = (reply.Sent (round_fills c.entries), (takes, refl), refl)
   tried m (inr (inr none)) = (reply.Full m, (none, refl), refl)
 
-  sent : (m : T) → c.next < most → Offered c → Replied (λ r. IsReply c (step.Send m) r)
+  sent : (m : T) → c.next_ticket < most → Offered c → Replied (λ r. IsReply c (step.Send m) r)
   sent m left (inl closed) = (reply.Closed m, (closed, refl), refl)
   sent m left (inr (inl takes)) = (reply.Sent (round_fills c.entries), (takes, refl), refl)
-  sent m left (inr (inr none)) = (reply.Pending c.next, (none, left, refl), refl)
+  sent m left (inr (inr none)) = (reply.Pending c.next_ticket, (none, left, refl), refl)
 
   polled_send : (t : ℕ) (live : Bool) → c.is_live t ≡ live → (held : Bool) → has_ticket t c.blocked ≡ held
       → IsClosed c.senders c.receivers ⊎ IsOpen c.senders c.receivers → Replied (λ r. IsReply c (step.PollSend t) r)
@@ -239,26 +239,27 @@ module _ {T A : Type 0} (c : Channel T) where
   tried_receive [] is (inl closed) = (reply.Ended, (is, closed), refl)
   tried_receive [] is (inr open_) = (reply.Empty, (is, open_), refl)
 
-  received : (kind : Kind) → c.next < most → (xs : List T) → c.line ≡ xs → IsClosed c.senders c.receivers ⊎ IsOpen c.senders c.receivers
+  received : (kind : Kind) → c.next_ticket < most → (xs : List T) → c.line ≡ xs
+      → IsClosed c.senders c.receivers ⊎ IsOpen c.senders c.receivers
       → Replied (λ r. IsReply c (step.Recv kind) r)
   received kind left (m ∷ rest) is open_ = (reply.Got m, (rest, is), refl)
   received kind left [] is (inl closed) = (reply.Ended, (is, closed), refl)
-  received kind left [] is (inr open_) = (reply.Parked c.next, (is, open_, left, refl), refl)
+  received kind left [] is (inr open_) = (reply.Parked c.next_ticket, (is, open_, left, refl), refl)
 
   -- a parked receive that asks
   module _ (xs : List T) (is : c.line ≡ xs) (open_ : IsClosed c.senders c.receivers ⊎ IsOpen c.senders c.receivers) where
-    woken : (ys : List T) → c.line ≡ ys → Replied (λ r. IsPolledMark c Block mark.Woken r)
+    woken : (ys : List T) → c.line ≡ ys → Replied (λ r. IsPollReplyByMark c Block mark.Woken r)
     woken (m ∷ rest) at = (reply.Got m, (rest, at), refl)
     woken [] at = (reply.Ended, at, refl)
 
-    looked : (kind : Kind) (m : Mark T) → ((r : Reply T A) → IsPolledMark c Plain mark.Waiting r → IsPolledMark c kind m r)
+    looked : (kind : Kind) (m : Mark T) → ((r : Reply T A) → IsPollReplyByMark c Plain mark.Waiting r → IsPollReplyByMark c kind m r)
         → (ys : List T) → c.line ≡ ys → IsClosed c.senders c.receivers ⊎ IsOpen c.senders c.receivers
-        → Replied (λ r. IsPolledMark c kind m r)
+        → Replied (λ r. IsPollReplyByMark c kind m r)
     looked kind m so (x ∷ rest) at k = (reply.Got x, so (reply.Got x) (rest, at), refl)
     looked kind m so [] at (inl closed) = (reply.Ended, so reply.Ended (at, closed), refl)
     looked kind m so [] at (inr open_) = (reply.Waiting, so reply.Waiting (at, open_), refl)
 
-    polled_mark : (kind : Kind) (m : Mark T) → Replied (λ r. IsPolledMark c kind m r)
+    polled_mark : (kind : Kind) (m : Mark T) → Replied (λ r. IsPollReplyByMark c kind m r)
     polled_mark kind (mark.Filled held) = (reply.Got held, refl, refl)
     polled_mark Block mark.Waiting = (reply.Waiting, tt, refl)
     polled_mark Block mark.Woken = woken xs is
@@ -269,18 +270,18 @@ module _ {T A : Type 0} (c : Channel T) where
     polled_mark Arm mark.Waiting = looked Arm mark.Waiting (λ r h. h) xs is open_
     polled_mark Arm mark.Woken = looked Arm mark.Woken (λ r h. h) xs is open_
 
-    polled : (found : Option (LogEntry T)) → Replied (λ r. IsPolled c found r)
+    polled : (found : Option (LogEntry T)) → Replied (λ r. IsPollReply c found r)
     polled None = (reply.NoTicket, tt, refl)
     polled (Some e) = polled_mark e.kind e.mark
 
     -- or leaves
-    left_block : (m : Mark T) → ((r : Reply T A) → IsGoneMark c 0 Block mark.Waiting r → IsGoneMark c 0 Block m r)
-        → (ys : List T) → c.line ≡ ys → Replied (λ r. IsGoneMark c 0 Block m r)
+    left_block : (m : Mark T) → ((r : Reply T A) → IsWithdrawReplyByMark c 0 Block mark.Waiting r → IsWithdrawReplyByMark c 0 Block m r)
+        → (ys : List T) → c.line ≡ ys → Replied (λ r. IsWithdrawReplyByMark c 0 Block m r)
     left_block m so (x ∷ rest) at = (reply.Got x, so (reply.Got x) (rest, at), refl)
     left_block m so [] at =
         (reply.Gone (is_closed c.senders c.receivers) None, so (reply.Gone (is_closed c.senders c.receivers) None) (at, refl, refl), refl)
 
-    gone_mark : (t : ℕ) (kind : Kind) (m : Mark T) → Replied (λ r. IsGoneMark c t kind m r)
+    gone_mark : (t : ℕ) (kind : Kind) (m : Mark T) → Replied (λ r. IsWithdrawReplyByMark c t kind m r)
     gone_mark t kind (mark.Filled held) = (reply.Got held, refl, refl)
     gone_mark t Block mark.Waiting = left_block mark.Waiting (λ r h. h) xs is
     gone_mark t Block mark.Woken = left_block mark.Woken (λ r h. h) xs is
@@ -291,7 +292,7 @@ module _ {T A : Type 0} (c : Channel T) where
     gone_mark t Arm mark.Waiting = (reply.Gone (is_closed c.senders c.receivers) (leave_fills t c.queue c.entries), (refl, refl), refl)
     gone_mark t Arm mark.Woken = (reply.Gone (is_closed c.senders c.receivers) (leave_fills t c.queue c.entries), (refl, refl), refl)
 
-    gone : (t : ℕ) (found : Option (LogEntry T)) → Replied (λ r. IsGone c t found r)
+    gone : (t : ℕ) (found : Option (LogEntry T)) → Replied (λ r. IsWithdrawReply c t found r)
     gone t None = (reply.NoTicket, tt, refl)
     gone t (Some e) = gone_mark t e.kind e.mark
 
@@ -353,10 +354,10 @@ module _ {T A : Type 0} (c : Channel T) where
   some_reply step.DropSender fs fr may = fewer_senders c.senders refl
   some_reply step.DropReceiver fs fr may = fewer_receivers c.receivers refl
   some_reply (step.SetCapacity k) fs fr may = resized k c.capacity refl (closed_or_open c.senders c.receivers)
-  some_reply step.Len fs fr may = (reply.Number c.boundary, refl, refl)
-  some_reply step.IsEmpty fs fr may = (reply.Truth (c.boundary == 0), refl, refl)
-  some_reply step.IsFull fs fr may = (reply.Truth (is_full c.capacity c.boundary), refl, refl)
+  some_reply step.Len fs fr may = (reply.Number c.queue_len, refl, refl)
+  some_reply step.IsEmpty fs fr may = (reply.Flag (c.queue_len == 0), refl, refl)
+  some_reply step.IsFull fs fr may = (reply.Flag (is_full c.capacity c.queue_len), refl, refl)
   some_reply step.Capacity fs fr may = (reply.Capacity c.capacity, refl, refl)
   some_reply step.SenderCount fs fr may = (reply.Number c.senders, refl, refl)
   some_reply step.ReceiverCount fs fr may = (reply.Number c.receivers, refl, refl)
-  some_reply step.IsDisconnected fs fr may = (reply.Truth (is_closed c.senders c.receivers), refl, refl)
+  some_reply step.IsDisconnected fs fr may = (reply.Flag (is_closed c.senders c.receivers), refl, refl)

@@ -152,8 +152,8 @@ module _ {T A : Type 0} (events : List (Event T A)) (call : Call T) where
   alike_leads n m queue reply.CountFull own.CountFull _ h k stage met = absurd k
   alike_leads n m queue (reply.Number x) (own.Number a) (own.Number b) h k stage met = ap (λ x. Answered (answer.Number x)) (sym h ∙ k)
   alike_leads n m queue (reply.Number x) (own.Number a) _ h k stage met = absurd k
-  alike_leads n m queue (reply.Truth x) (own.Truth a) (own.Truth b) h k stage met = ap (λ x. Answered (answer.Truth x)) (sym h ∙ k)
-  alike_leads n m queue (reply.Truth x) (own.Truth a) _ h k stage met = absurd k
+  alike_leads n m queue (reply.Flag x) (own.Flag a) (own.Flag b) h k stage met = ap (λ x. Answered (answer.Flag x)) (sym h ∙ k)
+  alike_leads n m queue (reply.Flag x) (own.Flag a) _ h k stage met = absurd k
   alike_leads n m queue (reply.Capacity x) (own.Capacity a) (own.Capacity b) h k stage met = ap (λ x. Answered (answer.Capacity x)) (sym h
       ∙ k)
   alike_leads n m queue (reply.Capacity x) (own.Capacity a) _ h k stage met = absurd k

@@ -13,7 +13,7 @@ use Rattle.flume_concurrent.specs.Explanations.{IsExplanation, IsExplained}
 use Rattle.flume_concurrent.proofs.LateCallLemmas.{explained_late}
 use Rattle.flume_explain.specs.Configurations.{start_of}
 use Rattle.flume_explain.specs.Agreement.{Agrees, IsOwn}
-use Rattle.flume_explain.specs.Dead.{IsDead, onto}
+use Rattle.flume_explain.specs.Dead.{IsDeadEnd, onto}
 use Rattle.flume_explain.specs.Reached.{IsReached}
 
 module _ {T A : Type 0} where
@@ -78,7 +78,7 @@ module _ {T A : Type 0} (equal : T → T → Bool) (events : List (Event T A)) w
   }
 
   -- if it is dead, the events have no explanation
-  pub unexplained : (capacity : Option ℕ) (first : ℕ) → IsDead equal events 0 (start_of capacity)
+  pub unexplained : (capacity : Option ℕ) (first : ℕ) → IsDeadEnd equal events 0 (start_of capacity)
       → IsExplained equal (opens capacity first) events → ⊥
   unexplained capacity first gone explained =
       let late = explained_late equal (opens capacity first) events explained in

@@ -109,7 +109,7 @@ module _ {T A : Type 0} (equal : T → T → Bool) (events : List (Event T A)) (
   answered =
       answers mv o (steps_in past) h.agrees.state c h.agrees.tickets one.place own step reply h.agrees.represents h.agrees.channel h.call_is
       h.step_is
-      (ready equal events c t one own mv h.agrees.tickets h.agrees.state.next h.agrees.threads_apart h.call_is refuses h.is_own
+      (ready equal events c t one own mv h.agrees.tickets h.agrees.state.next_ticket h.agrees.threads_apart h.call_is refuses h.is_own
       h.agrees.parked may)
       h.lawful h.refused_is
 
@@ -117,11 +117,12 @@ module _ {T A : Type 0} (equal : T → T → Bool) (events : List (Event T A)) (
   same : SameReply answered.reply reply
   same =
       one_reply (channel o (steps_in past)) (one_blocked o (steps_in past) h.agrees.represents.run) step answered.reply reply
-      answered.represents.run.0 h.lawful (had_memory events h.agrees.state.next c.queue reply_by_place answered.reply answered.corresponds)
+      answered.represents.run.0 h.lawful
+      (had_memory events h.agrees.state.next_ticket c.queue reply_by_place answered.reply answered.corresponds)
       (not_refused reply h.refused_is)
 
-  corresponds : Corresponds events h.agrees.state.next c.queue reply_by_place reply
-  corresponds = same_alike events h.agrees.state.next c.queue reply_by_place answered.reply reply same answered.corresponds
+  corresponds : Corresponds events h.agrees.state.next_ticket c.queue reply_by_place reply
+  corresponds = same_alike events h.agrees.state.next_ticket c.queue reply_by_place answered.reply reply same answered.corresponds
 
   represents : Represents o ((step, reply) ∷ steps_in past) answered.state
   represents = stands_same o (steps_in past) step answered.reply reply answered.state same h.lawful answered.represents
@@ -137,10 +138,10 @@ module _ {T A : Type 0} (equal : T → T → Bool) (events : List (Event T A)) (
 
   -- whether the call is parked after it
   parks_after : is_parked (progress_of (stage_after own h.stage reply)) ≡ stays_parked reply_by_place
-  parks_after = parked_after equal events own h.agrees.state.next c.queue h.stage reply_by_place reply corresponds met_stage
+  parks_after = parked_after equal events own h.agrees.state.next_ticket c.queue h.stage reply_by_place reply corresponds met_stage
 
   -- the next ticket
-  next_after : answered.state.next ≡ h.agrees.state.next + tickets_issued (change (steps_in past) step reply)
+  next_after : answered.state.next_ticket ≡ h.agrees.state.next_ticket + tickets_issued (change (steps_in past) step reply)
   next_after = represents.next_is ∙ ap (λ n. n + tickets_issued (change (steps_in past) step reply)) (sym h.agrees.represents.next_is)
 
   -- who is left in the channel
@@ -179,7 +180,7 @@ module _ {T A : Type 0} (equal : T → T → Bool) (events : List (Event T A)) (
     after = stage_after own (clear_ticket h.stage) found
 
     as_far : clear_ticket (stage_after own h.stage reply) ≡ clear_ticket after
-    as_far = alike_leads events own h.agrees.state.next n c.queue reply_by_place reply found corresponds is_alike h.stage met_stage
+    as_far = alike_leads events own h.agrees.state.next_ticket n c.queue reply_by_place reply found corresponds is_alike h.stage met_stage
 
     -- the configuration that the move leaves
     abbrev pub new_state : State
@@ -204,17 +205,19 @@ module _ {T A : Type 0} (equal : T → T → Bool) (events : List (Event T A)) (
         leads e =
             agrees_after equal events o past rest c (record left { calls = calls_with_progress one.place q c.calls }) t one own h.stage
             step reply q
-            (tickets_after reply_by_place one.place h.agrees.state.next h.agrees.tickets) answered.state h.agrees h.is_own h.call_is
+            (tickets_after reply_by_place one.place h.agrees.state.next_ticket h.agrees.tickets) answered.state h.agrees h.is_own h.call_is
             h.is_open refl
-            (λ p differs. ticket_kept (parks reply_by_place) one.place h.agrees.state.next h.agrees.tickets p differs)
-            (progress_after equal events own (first_answer t rest) one.place h.agrees.state.next h.agrees.tickets c.queue one.progress
+            (λ p differs. ticket_kept (parks reply_by_place) one.place h.agrees.state.next_ticket h.agrees.tickets p differs)
+            (progress_after equal events own (first_answer t rest) one.place h.agrees.state.next_ticket h.agrees.tickets c.queue
+            one.progress
             h.stage
             reply_by_place reply corresponds h.progress_is e)
-            represents (mirrors_calls events (tickets_after reply_by_place one.place h.agrees.state.next h.agrees.tickets) answered.state
+            represents (mirrors_calls events (tickets_after reply_by_place one.place h.agrees.state.next_ticket h.agrees.tickets)
+            answered.state
             left
             (calls_with_progress one.place q c.calls) answered.mirrors)
             (parked_if events c (record left { calls = calls_with_progress one.place q c.calls }) t one q h.is_own refl h.agrees.tickets
-            h.agrees.state.next answered.state.next h.agrees.parked (let more = next_after in omega arith)
+            h.agrees.state.next_ticket answered.state.next_ticket h.agrees.parked (let more = next_after in omega arith)
             (parks reply_by_place) less as_before blocks
             receives_
             (All-weaker (IsPlaceAfter Pending reply_by_place one.place c.blocked) (λ p. is_send_at events p ≡ true) left_sends left.blocked
@@ -224,9 +227,10 @@ module _ {T A : Type 0} (equal : T → T → Bool) (events : List (Event T A)) (
             (λ p. is_send_at events p ≡ false) left_others
             (map (λ r. r.place) left.receives) answered.receives_after)))
           where
-            less : parks reply_by_place ≡ true → h.agrees.state.next < answered.state.next
+            less : parks reply_by_place ≡ true → h.agrees.state.next_ticket < answered.state.next_ticket
             less parking =
-                let one_more = parking_issues (steps_in past) step reply_by_place events h.agrees.state.next c.queue reply corresponds
+                let one_more = parking_issues (steps_in past) step reply_by_place events h.agrees.state.next_ticket c.queue reply
+                corresponds
                 parking
                 (subst (λ (m : Move). may_answer m reply_by_place ≡ true) (sym is_for) (made_may mv one.place c)) in
                 let more = next_after in omega arith

@@ -10,7 +10,7 @@ use Rattle.flume_model.specs.declared.step.Step.{Step}
 use Rattle.flume_model.specs.declared.step.Step.TheVariants as step
 use Rattle.flume_model.specs.declared.step.Reply.{Reply}
 use Rattle.flume_model.specs.declared.step.Reply.TheVariants as reply
-use Rattle.flume_model.specs.Asking.{IsPolledMark, IsPolled, IsGoneMark, IsGone}
+use Rattle.flume_model.specs.Asking.{IsPollReplyByMark, IsPollReply, IsWithdrawReplyByMark, IsWithdrawReply}
 use Rattle.flume_model.specs.Channel.{Channel, channel}
 use Rattle.flume_model.specs.Entries.{entry_of}
 use Rattle.flume_model.specs.Line.{tickets_issued, next_ticket}
@@ -70,14 +70,14 @@ module _ {T A : Type 0} where
   park_most (Some current) = take_most current.1
 
   -- a reply that issues a ticket
-  abbrev IsParking : Reply T A → Type 0
-  IsParking (reply.Pending t) = Unit {0}
-  IsParking (reply.Parked t) = Unit {0}
-  IsParking _ = ⊥
+  abbrev IsParkingAnswer : Reply T A → Type 0
+  IsParkingAnswer (reply.Pending t) = Unit {0}
+  IsParkingAnswer (reply.Parked t) = Unit {0}
+  IsParkingAnswer _ = ⊥
 
   -- a step issues no ticket, or one by such a reply
   abbrev Issues : Change T → Reply T A → Type 0
-  Issues c r = (tickets_issued c ≡ 0) ⊎ ((tickets_issued c ≡ 1) × IsParking r)
+  Issues c r = (tickets_issued c ≡ 0) ⊎ ((tickets_issued c ≡ 1) × IsParkingAnswer r)
 
   issues : (log : Log T A) (s : Step T) (r : Reply T A) → Issues (change log s r) r
   issues log (step.Send m) (reply.Pending t) = inr (refl, tt)
@@ -117,7 +117,7 @@ module _ {T A : Type 0} where
   issues log (step.SetCapacity n) _ = inl refl
   issues log _ r = inl refl
 
-  parking_far : (own : Call T) (s : Stage T A) (r : Reply T A) → IsParking r → to_take (stage_after own s r) ≡ 0
+  parking_far : (own : Call T) (s : Stage T A) (r : Reply T A) → IsParkingAnswer r → to_take (stage_after own s r) ≡ 0
   parking_far own s (reply.Pending t) h = refl
   parking_far own s (reply.Parked t) h = refl
   parking_far own s _ h = absurd h
@@ -211,7 +211,7 @@ module _ {T A : Type 0} where
 
 module _ {T : Type 0} (A : Type 0) (c : Channel T) where
   -- no parked call is told to try
-  polled_mark : (kind : Kind) (m : Mark T) (r : Reply T A) → IsPolledMark c kind m r → IsTry r → ⊥
+  polled_mark : (kind : Kind) (m : Mark T) (r : Reply T A) → IsPollReplyByMark c kind m r → IsTry r → ⊥
   polled_mark kind (mark.Filled held) (reply.Full back) h tried = h
   polled_mark kind (mark.Filled held) reply.Empty h tried = h
   polled_mark Block mark.Waiting (reply.Full back) h tried = h
@@ -224,13 +224,13 @@ module _ {T : Type 0} (A : Type 0) (c : Channel T) where
   polled_mark _ mark.Woken reply.Empty h tried = h
   polled_mark kind m _ h tried = tried
 
-  polled : (found : Option (LogEntry T)) (r : Reply T A) → IsPolled c found r → IsTry r → ⊥
+  polled : (found : Option (LogEntry T)) (r : Reply T A) → IsPollReply c found r → IsTry r → ⊥
   polled None (reply.Full back) h tried = h
   polled None reply.Empty h tried = h
   polled None _ h tried = tried
   polled (Some e) r h tried = polled_mark e.kind e.mark r h tried
 
-  gone_mark : (t : ℕ) (kind : Kind) (m : Mark T) (r : Reply T A) → IsGoneMark c t kind m r → IsTry r → ⊥
+  gone_mark : (t : ℕ) (kind : Kind) (m : Mark T) (r : Reply T A) → IsWithdrawReplyByMark c t kind m r → IsTry r → ⊥
   gone_mark t kind (mark.Filled held) (reply.Full back) h tried = h
   gone_mark t kind (mark.Filled held) reply.Empty h tried = h
   gone_mark t Block mark.Waiting (reply.Full back) h tried = h
@@ -243,7 +243,7 @@ module _ {T : Type 0} (A : Type 0) (c : Channel T) where
   gone_mark t _ mark.Woken reply.Empty h tried = h
   gone_mark t kind m _ h tried = tried
 
-  gone : (t : ℕ) (found : Option (LogEntry T)) (r : Reply T A) → IsGone c t found r → IsTry r → ⊥
+  gone : (t : ℕ) (found : Option (LogEntry T)) (r : Reply T A) → IsWithdrawReply c t found r → IsTry r → ⊥
   gone t None (reply.Full back) h tried = h
   gone t None reply.Empty h tried = h
   gone t None _ h tried = tried

@@ -29,7 +29,7 @@ use Rattle.flume_explain.specs.declared.step_of.Move.TheVariants as move
 use Rattle.flume_explain.specs.Configurations.{State}
 use Rattle.flume_explain.specs.ByPlaces.{closed_now, with_front, without_receive, leave, wake}
 use Rattle.flume_explain.specs.ByPlaces.{passes_on as passes_on_here}
-use Rattle.flume_explain.specs.Receives.{receive_of, without_place}
+use Rattle.flume_explain.specs.Receives.{receive_at, without_place}
 use Rattle.flume_explain.specs.Outcomes.{ReplyAndState, outcome, receive_outcome_from, leaves_with, withdraw_outcome_as}
 use Rattle.flume_explain.specs.Outcomes.{withdraw_outcome_by}
 use Rattle.flume_explain.specs.Mirrors.{Mirrors, mark_of, some_mark}
@@ -68,7 +68,7 @@ module _ {T A : Type 0} (events : List (Event T A)) (o : Opening) (log : Log T A
           (λ m rest after at after_is. withdraw_takes o log s after (tickets place) st m rest h is blocks_ at after_is)
 
   -- one that doesn't block leaves, and passes its wake on if it has one
-  departs : (woken : Bool) → passes_on_here (receive_of place c.receives) ≡ woken → passes_on (entry_of (tickets place) s.entries) ≡ woken
+  departs : (woken : Bool) → passes_on_here (receive_at place c.receives) ≡ woken → passes_on (entry_of (tickets place) s.entries) ≡ woken
       → Represents o ((
         Withdraw (tickets place),
         own.Gone (is_closed s.senders s.receivers)
@@ -88,12 +88,12 @@ module _ {T A : Type 0} (events : List (Event T A)) (o : Opening) (log : Log T A
       alone : Mirrors events tickets (without_receiver (tickets place) s) (without_receive place c)
       alone = mirror_without events tickets s c place mirrors apart.from_parked
 
-      mirror_leave : (b : Bool) → passes_on_here (receive_of place c.receives) ≡ b → passes_on (entry_of (tickets place) s.entries) ≡ b
+      mirror_leave : (b : Bool) → passes_on_here (receive_at place c.receives) ≡ b → passes_on (entry_of (tickets place) s.entries) ≡ b
           → Mirrors events tickets (after_withdrawal (tickets place) s) (leave place c)
       mirror_leave true a e = rw (a, e) (mirror_wake events tickets _ _ alone)
       mirror_leave false a e = rw (a, e) alone
 
-      left_blocked : (b : Bool) → passes_on_here (receive_of place c.receives) ≡ b
+      left_blocked : (b : Bool) → passes_on_here (receive_at place c.receives) ≡ b
           → All (IsPlaceAfter reply.Pending (reply.Gone (closed_now c)) place c.blocked) (leave place c).blocked
       left_blocked true a = rw a (all_left (reply.Gone (closed_now c)) place c.blocked unblocked)
       left_blocked false a = rw a (all_left (reply.Gone (closed_now c)) place c.blocked unblocked)
@@ -104,7 +104,7 @@ module _ {T A : Type 0} (events : List (Event T A)) (o : Opening) (log : Log T A
           left_others (reply.Gone (closed_now c)) place (places c.receives) _ (without_among place c.receives)
           (others_elsewhere events tickets s c place mirrors apart.from_parked o log h)
 
-      left_receives : (b : Bool) → passes_on_here (receive_of place c.receives) ≡ b
+      left_receives : (b : Bool) → passes_on_here (receive_at place c.receives) ≡ b
           → All (IsPlaceAfter reply.Parked (reply.Gone (closed_now c)) place (places c.receives)) (places (leave place c).receives)
       left_receives true a = rw (a, round_with_places c.queue (without_place place c.receives)) others
       left_receives false a = rw a others
@@ -112,7 +112,7 @@ module _ {T A : Type 0} (events : List (Event T A)) (o : Opening) (log : Log T A
   -- one that waits, and doesn't block
   waiting : (k : Kind) (q : ℕ) (m : Mark T) → mark_of events status.Waiting ≡ some_mark m
       → passes_on (entry_of (tickets place) s.entries) ≡ is_woken m
-      → receive_of place c.receives ≡ Some (record { place = q; kind = k; status = status.Waiting })
+      → receive_at place c.receives ≡ Some (record { place = q; kind = k; status = status.Waiting })
       → receiver_status (tickets place) s.entries ≡ Some IsWaiting → Withdrawn (reply.Gone (closed_now c), leave place c)
   waiting k q m marked passes found is =
       departs false (ap passes_on_here found) (passes ∙ ap is_woken (waiting_mark events m marked))
@@ -121,7 +121,7 @@ module _ {T A : Type 0} (events : List (Event T A)) (o : Opening) (log : Log T A
   -- one that was woken, and doesn't block
   woken : (k : Kind) (q : ℕ) (m : Mark T) → mark_of events status.Woken ≡ some_mark m
       → passes_on (entry_of (tickets place) s.entries) ≡ is_woken m
-      → receive_of place c.receives ≡ Some (record { place = q; kind = k; status = status.Woken })
+      → receive_at place c.receives ≡ Some (record { place = q; kind = k; status = status.Woken })
       → receiver_status (tickets place) s.entries ≡ Some IsWoken → Withdrawn (reply.Gone (closed_now c), leave place c)
   woken k q m marked passes found is =
       departs true (ap passes_on_here found) (passes ∙ ap is_woken (woken_mark events m marked))
@@ -131,7 +131,7 @@ module _ {T A : Type 0} (events : List (Event T A)) (o : Opening) (log : Log T A
   withdraws : (k : Kind) (st : Status) (q : ℕ) (m : Mark T) → mark_of events st ≡ some_mark m
       → receiver_status (tickets place) s.entries ≡ Some (status_by k m) → held_by (entry_of (tickets place) s.entries) ≡ held_in m
       → passes_on (entry_of (tickets place) s.entries) ≡ is_woken m
-      → receive_of place c.receives ≡ Some (record { place = q; kind = k; status = st }) → Withdrawn (withdraw_outcome_as place k st c)
+      → receive_at place c.receives ≡ Some (record { place = q; kind = k; status = st }) → Withdrawn (withdraw_outcome_as place k st c)
   withdraws k (status.Filled p) q m marked is held passes found =
       let filled = filled_mark events p m marked in
       leaves events o log s c tickets place h mirrors apart unblocked (Withdraw (tickets place)) (reply.Got p) (own.Got filled.0) refl
@@ -157,9 +157,9 @@ module _ {T A : Type 0} (events : List (Event T A)) (o : Opening) (log : Log T A
 
   -- it leaves
   leaving : Withdrawn (outcome move.Withdraw place c)
-  leaving = go (receive_of place c.receives) refl
+  leaving = go (receive_at place c.receives) refl
     where
-      go : (found : Option ParkedReceive) → receive_of place c.receives ≡ found → Withdrawn (withdraw_outcome_by place found c)
+      go : (found : Option ParkedReceive) → receive_at place c.receives ≡ found → Withdrawn (withdraw_outcome_by place found c)
       go None none =
           gone events o log s c tickets place h mirrors apart unblocked (Withdraw (tickets place)) none
           (withdraw_none o log s s (tickets place) h (stands_none events tickets s c place mirrors apart.from_parked none) refl)

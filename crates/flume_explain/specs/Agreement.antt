@@ -83,4 +83,4 @@ module _ {T A : Type 0} (equal : T → T → Bool) (events : List (Event T A)) w
     pub calls_are : (t : ℕ) → IsOpenAs tickets (first_answer t rest) (call_by events t c.calls)
         (open_call past t)
     pub threads_apart : All (IsOwn c.calls) c.calls
-    pub parked : AreParked events tickets state.next c
+    pub parked : AreParked events tickets state.next_ticket c

@@ -7,7 +7,7 @@ use Rattle.flume_explain.specs.declared.configuration.ParkedReceive.{ParkedRecei
 use Rattle.flume_explain.specs.declared.configuration.Status.TheVariants.{Waiting, Woken}
 use Rattle.flume_explain.specs.Configurations.{State}
 use Rattle.flume_explain.specs.Receives.{waits, is_awake, with_status, round_of, round_fills_one}
-use Rattle.flume_explain.specs.Receives.{receive_of, without_place}
+use Rattle.flume_explain.specs.Receives.{receive_at, without_place}
 
 -- whether some receive waits
 abbrev pub some_waits : List ParkedReceive → Bool
@@ -31,8 +31,8 @@ abbrev pub admit : State → State
 admit c = admit_of c.blocked c
 
 -- the same, if the queue has room
-abbrev pub refill : State → State
-refill c = if not (full_now c) then admit c else c
+abbrev pub admit_if_room : State → State
+admit_if_room c = if not (full_now c) then admit c else c
 
 -- the same, if this queue is empty
 abbrev pub front_of : List ℕ → State → State
@@ -45,7 +45,7 @@ with_front c = front_of c.queue c
 
 -- the front of the line was taken, and this is the rest of the queue
 abbrev pub take_leaving : List ℕ → State → State
-take_leaving rest c = refill (record (with_front c) { queue = rest })
+take_leaving rest c = admit_if_room (record (with_front c) { queue = rest })
 
 -- these blocked sends join the queue, the first ones first, while it has room
 abbrev pub admit_all_of : List ℕ → State → State
@@ -86,8 +86,8 @@ wake c = record c {
 }
 
 -- the send at this place joins the queue, and a wake round follows
-abbrev pub join : ℕ → State → State
-join place c = wake (record c { queue = c.queue ++ place ∷ [] })
+abbrev pub push : ℕ → State → State
+push place c = wake (record c { queue = c.queue ++ place ∷ [] })
 
 -- the receive at this place is parked no more
 abbrev pub without_receive : ℕ → State → State
@@ -101,7 +101,7 @@ again_as place (Some r) rs =
 
 -- the receive at this place asked, and waits on
 abbrev pub ask_again : ℕ → State → State
-ask_again place c = record c { receives = again_as place (receive_of place c.receives) c.receives }
+ask_again place c = record c { receives = again_as place (receive_at place c.receives) c.receives }
 
 -- whether this receive passes its notification on as it leaves
 abbrev pub passes_on : Option ParkedReceive → Bool
@@ -111,7 +111,7 @@ passes_on (Some r) = is_awake r.status
 -- the receive at this place leaves without a message, and passes its notification on
 abbrev pub leave : ℕ → State → State
 leave place c =
-    if passes_on (receive_of place c.receives) then wake (without_receive place c)
+    if passes_on (receive_at place c.receives) then wake (without_receive place c)
     else without_receive place c
 
 -- the blocked sends without the first one at this place

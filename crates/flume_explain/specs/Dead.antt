@@ -29,14 +29,14 @@ module _ {T A : Type 0} (equal : T → T → Bool) (events : List (Event T A)) w
     pub explains : IsExplanation equal opening (onto items past)
 
   -- no items complete an explanation after those that the configuration agrees with
-  abbrev pub IsDead : ℕ → State → Type 0
-  IsDead place c = (opening : Opening) (past items : List (Item T A))
+  abbrev pub IsDeadEnd : ℕ → State → Type 0
+  IsDeadEnd place c = (opening : Opening) (past items : List (Item T A))
       → Agrees equal events opening past (drop place events) c → Completes opening past place items
       → ⊥
 
   -- no items do that are at most this many
-  abbrev pub IsDeadWithin : ℕ → ℕ → State → Type 0
-  IsDeadWithin n place c = (opening : Opening) (past items : List (Item T A)) → length items ≤ n
+  abbrev pub IsDeadEndWithin : ℕ → ℕ → State → Type 0
+  IsDeadEndWithin n place c = (opening : Opening) (past items : List (Item T A)) → length items ≤ n
       → Agrees equal events opening past (drop place events) c → Completes opening past place items
       → ⊥
 
@@ -50,14 +50,14 @@ module _ {T A : Type 0} (equal : T → T → Bool) (events : List (Event T A)) w
   abbrev pub CoverNext : ℕ → State → List Choice → Type 0
   CoverNext place c choices = (opening : Opening) (past : List (Item T A)) (item : Item T A)
       (items : List (Item T A)) → Agrees equal events opening past (drop place events) c
-      → IsDeadWithin (length items) place c → Completes opening past place (item ∷ items)
+      → IsDeadEndWithin (length items) place c → Completes opening past place (item ∷ items)
       → (choice : Choice) × Contains choices choice × IsItemOf c past choice item
 
   -- nothing of this choice may come next, unless fewer items complete an explanation
   abbrev pub IsSpent : ℕ → State → Choice → Type 0
   IsSpent place c choice = (opening : Opening) (past : List (Item T A)) (item : Item T A)
       (items : List (Item T A)) → Agrees equal events opening past (drop place events) c
-      → IsDeadWithin (length items) place c → Completes opening past place (item ∷ items)
+      → IsDeadEndWithin (length items) place c → Completes opening past place (item ∷ items)
       → IsItemOf c past choice item → ⊥
 
   -- the next event leads to items that agree with the new configuration

@@ -78,7 +78,7 @@ module _ {T A : Type 0} (events : List (Event T A)) where
   Corresponds next queue reply.NoEnd own.NoEnd = Unit {0}
   Corresponds next queue reply.CountFull own.CountFull = Unit {0}
   Corresponds next queue (reply.Number n) (own.Number m) = n ≡ m
-  Corresponds next queue (reply.Truth b) (own.Truth c) = b ≡ c
+  Corresponds next queue (reply.Flag b) (own.Flag c) = b ≡ c
   Corresponds next queue (reply.Capacity n) (own.Capacity m) = n ≡ m
   Corresponds next queue reply.Unbounded own.Unbounded = Unit {0}
   Corresponds next queue _ _ = ⊥

@@ -13,20 +13,20 @@ use Rattle.flume_explain.specs.declared.place_reply.PlaceReply.TheVariants as re
 use Rattle.flume_explain.specs.declared.step_of.Move.{Move}
 use Rattle.flume_explain.specs.declared.step_of.Move.TheVariants as move
 use Rattle.flume_explain.specs.Configurations.{State}
-use Rattle.flume_explain.specs.Receives.{receive_of}
+use Rattle.flume_explain.specs.Receives.{receive_at}
 use Rattle.flume_explain.specs.ByPlaces.{some_waits, closed_now, full_now, with_front, take_leaving}
-use Rattle.flume_explain.specs.ByPlaces.{admit_all, resize, join, without_receive, ask_again, leave}
-use Rattle.flume_explain.specs.ByPlaces.{without_send, end_dropped}
+use Rattle.flume_explain.specs.ByPlaces.{admit_all, resize, push, without_receive, ask_again}
+use Rattle.flume_explain.specs.ByPlaces.{leave, without_send, end_dropped}
 
 -- a reply with the configuration after it
 abbrev pub ReplyAndState : Type 0
 ReplyAndState = PlaceReply × State
 
 -- a send, with this answer if there is no room
-abbrev pub offer_outcome : ReplyAndState → ℕ → State → ReplyAndState
-offer_outcome no_room place c =
+abbrev pub send_outcome : ReplyAndState → ℕ → State → ReplyAndState
+send_outcome no_room place c =
     if closed_now c then (reply.Closed, c)
-    else (if not (some_waits c.receives) && full_now c then no_room else (reply.Sent, join place c))
+    else (if not (some_waits c.receives) && full_now c then no_room else (reply.Sent, push place c))
 
 -- whether the send at this place is blocked
 abbrev pub is_blocked : ℕ → State → Bool
@@ -88,7 +88,7 @@ poll_outcome_by place (Some r) c = poll_outcome_as place r.kind r.status c
 
 -- the receive at this place asks
 abbrev pub poll_outcome : ℕ → State → ReplyAndState
-poll_outcome place c = poll_outcome_by place (receive_of place c.receives) c
+poll_outcome place c = poll_outcome_by place (receive_at place c.receives) c
 
 -- a parked receive in this state withdraws
 abbrev pub withdraw_outcome_as : ℕ → Kind → Status → State → ReplyAndState
@@ -105,7 +105,7 @@ withdraw_outcome_by place (Some r) c = withdraw_outcome_as place r.kind r.status
 
 -- the receive at this place withdraws
 abbrev pub withdraw_outcome : ℕ → State → ReplyAndState
-withdraw_outcome place c = withdraw_outcome_by place (receive_of place c.receives) c
+withdraw_outcome place c = withdraw_outcome_by place (receive_at place c.receives) c
 
 -- an end is cloned; there were this many
 abbrev pub clone_outcome : ℕ → State → State → ReplyAndState
@@ -125,8 +125,8 @@ resize_outcome (Some old) n c = if closed_now c then (reply.Ended, c) else (repl
 
 -- the reply to a move of the call at a place, and the configuration after it
 abbrev pub outcome : Move → ℕ → State → ReplyAndState
-outcome move.TrySend p c = offer_outcome (reply.Full, c) p c
-outcome move.Send p c = offer_outcome (reply.Pending, record c { blocked = c.blocked ++ p ∷ [] }) p c
+outcome move.TrySend p c = send_outcome (reply.Full, c) p c
+outcome move.Send p c = send_outcome (reply.Pending, record c { blocked = c.blocked ++ p ∷ [] }) p c
 outcome move.PollSend p c = poll_send_outcome p c
 outcome move.WithdrawSend p c = withdraw_send_outcome p c
 outcome move.TryRecv p c = receive_outcome (reply.Empty, c) c c
@@ -142,9 +142,9 @@ outcome move.DropReceiver p c =
     drop_outcome c.receivers (record c { receivers = c.receivers - 1 }) c
 outcome (move.SetCapacity n) p c = resize_outcome c.capacity n c
 outcome move.Len p c = (reply.Number (length c.queue), c)
-outcome move.IsEmpty p c = (reply.Truth (length c.queue == 0), c)
-outcome move.IsFull p c = (reply.Truth (full_now c), c)
+outcome move.IsEmpty p c = (reply.Flag (length c.queue == 0), c)
+outcome move.IsFull p c = (reply.Flag (full_now c), c)
 outcome move.Capacity p c = (reply.Capacity c.capacity, c)
 outcome move.SenderCount p c = (reply.Number c.senders, c)
 outcome move.ReceiverCount p c = (reply.Number c.receivers, c)
-outcome move.IsDisconnected p c = (reply.Truth (closed_now c), c)
+outcome move.IsDisconnected p c = (reply.Flag (closed_now c), c)

@@ -22,17 +22,18 @@ abbrev pub with_status : Status → ParkedReceive → ParkedReceive
 with_status status r = record r { status = status }
 
 -- the first waiting receive in a wake round and those behind it, if the round ends here or goes on
-abbrev pub round_at : Kind → ℕ → ParkedReceive → List ParkedReceive → List ParkedReceive
+abbrev pub round_from : Kind → ℕ → ParkedReceive → List ParkedReceive → List ParkedReceive
     → List ParkedReceive
-round_at Stream front r as_are goes_on = with_status Woken r ∷ goes_on
-round_at Block front r as_are goes_on = with_status (Filled front) r ∷ as_are
-round_at kind front r as_are goes_on = with_status Woken r ∷ as_are
+round_from Stream front r as_are goes_on = with_status Woken r ∷ goes_on
+round_from Block front r as_are goes_on = with_status (Filled front) r ∷ as_are
+round_from kind front r as_are goes_on = with_status Woken r ∷ as_are
 
 -- the receives after a wake round, if the send at this place is the front of the queue
 abbrev pub round_of : ℕ → List ParkedReceive → List ParkedReceive
 round_of front [] = []
 round_of front (r ∷ rs) =
-    if waits r.status then round_at r.kind front r rs (round_of front rs) else r ∷ round_of front rs
+    if waits r.status then round_from r.kind front r rs (round_of front rs)
+    else r ∷ round_of front rs
 
 -- whether a round fills a receive that comes to one of this kind, given whether it would behind it
 abbrev pub fills_at : Kind → Bool → Bool
@@ -47,9 +48,9 @@ round_fills_one (r ∷ rs) =
     if waits r.status then fills_at r.kind (round_fills_one rs) else round_fills_one rs
 
 -- the first receive with a place
-abbrev pub receive_of : ℕ → List ParkedReceive → Option ParkedReceive
-receive_of p [] = None
-receive_of p (r ∷ rs) = if r.place == p then Some r else receive_of p rs
+abbrev pub receive_at : ℕ → List ParkedReceive → Option ParkedReceive
+receive_at p [] = None
+receive_at p (r ∷ rs) = if r.place == p then Some r else receive_at p rs
 
 -- the receives without the first one with a place
 abbrev pub without_place : ℕ → List ParkedReceive → List ParkedReceive

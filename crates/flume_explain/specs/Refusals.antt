@@ -10,7 +10,7 @@ use Rattle.flume_explain.specs.declared.step_of.Move.{Move}
 use Rattle.flume_explain.specs.declared.step_of.Move.TheVariants as move
 use Rattle.flume_explain.specs.Configurations.{State}
 use Rattle.flume_explain.specs.ByPlaces.{closed_now, full_now, some_waits}
-use Rattle.flume_explain.specs.Receives.{receive_of}
+use Rattle.flume_explain.specs.Receives.{receive_at}
 
 -- whether a send is blocked
 abbrev pub some_blocked : State → Bool
@@ -21,15 +21,15 @@ abbrev pub some_queued : State → Bool
 some_queued c = not (length c.queue == 0)
 
 -- whether a receive of this kind in this state asks by looking at the line
-abbrev pub looks : Kind → Status → Bool
-looks kind (Filled p) = false
-looks Block status = false
-looks kind status = true
+abbrev pub looks_at_line : Kind → Status → Bool
+looks_at_line kind (Filled p) = false
+looks_at_line Block status = false
+looks_at_line kind status = true
 
 -- whether a parked receive does, if there is one
 abbrev pub is_looking : Option ParkedReceive → Bool
 is_looking None = false
-is_looking (Some r) = looks r.kind r.status
+is_looking (Some r) = looks_at_line r.kind r.status
 
 -- whether a move may be refused: one that queues a message, admits a blocked send, parks or drains
 abbrev pub may_be_refused : Move → ℕ → State → Bool
@@ -39,6 +39,6 @@ may_be_refused move.Send place c = not (closed_now c)
 may_be_refused move.TryRecv place c = some_blocked c
 may_be_refused (move.Recv kind) place c =
     some_blocked c || (not (some_queued c) && not (closed_now c))
-may_be_refused move.Poll place c = some_blocked c && is_looking (receive_of place c.receives)
+may_be_refused move.Poll place c = some_blocked c && is_looking (receive_at place c.receives)
 may_be_refused move.Drain place c = some_queued c
 may_be_refused _ place c = false

@@ -9,7 +9,7 @@ use Rattle.flume_explain.specs.declared.frame.Frame.{Frame}
 use Rattle.flume_explain.specs.declared.replay.Replay.{Replay}
 use Rattle.flume_explain.specs.declared.search.Search.{Search}
 use Rattle.flume_explain.specs.Configurations.{State}
-use Rattle.flume_explain.specs.Dead.{CoverNext, IsDead}
+use Rattle.flume_explain.specs.Dead.{CoverNext, IsDeadEnd}
 
 -- a configuration at a place, as one that is remembered
 abbrev pub dead_at : {A : Type 0} → ℕ → State → Dead A
@@ -25,13 +25,13 @@ module _ {T A : Type 0} (equal : T → T → Bool) (events : List (Event T A)) w
   abbrev pub AreOnTheWay : (start : Type 0) → List (Frame A) → (last : Type 0) → Type 0
   AreOnTheWay start [] last = last → start
   AreOnTheWay start (frame ∷ frames) last = (frame.place < length events)
-      × (IsDead equal events frame.place frame.configuration → start)
+      × (IsDeadEnd equal events frame.place frame.configuration → start)
       × AreOnTheWay (FrameCovers frame) frames last
 
   -- the start is dead if no frame has a choice and `last` holds; what is remembered is dead
   pub record Searches (start : State) (last : Type 0) (search : Search A) : Type 0 where
-    pub way : AreOnTheWay (IsDead equal events 0 start) search.frames.items last
-    pub dead : All (λ d. IsDead equal events d.place d.configuration) search.dead.dead.items
+    pub way : AreOnTheWay (IsDeadEnd equal events 0 start) search.frames.items last
+    pub dead : All (λ d. IsDeadEnd equal events d.place d.configuration) search.dead.dead.items
 
   -- the search is one from some configuration
   abbrev pub IsSearch : Search A → Type 0
@@ -47,7 +47,7 @@ module _ {T A : Type 0} where
       (count : ℕ) : Type 0 where
     pub is_within : count < length events
     pub before : IsExplained equal opening (take count events)
-    pub not_on : IsExplained equal opening (take (count + 1) events) → ⊥
+    pub not_with_next : IsExplained equal opening (take (count + 1) events) → ⊥
 
   -- this many of the events are explained, and all of them aren't
   pub record UnexplainedAfter (equal : T → T → Bool) (opening : Opening)

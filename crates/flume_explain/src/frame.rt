@@ -1,7 +1,7 @@
 //! The configurations on the way of a search.
 ghost use Rattle.std.specs.Prelude.{◌≡◌, ◌<◌, ℕ, length};
 ghost use Rattle.flume_explain.specs.Configurations.{State};
-ghost use Rattle.flume_explain.specs.Dead.{CoverNext, IsDead};
+ghost use Rattle.flume_explain.specs.Dead.{CoverNext, IsDeadEnd};
 ghost use Rattle.flume_explain.specs.Reached.{Reaches};
 ghost use Rattle.flume_explain.specs.declared.choice.Choice.{Choice};
 
@@ -39,15 +39,15 @@ impl<A: Allocator + Copy> Frame<A> {
             self.old.choices.items }
         ensures same_place { self.new.place ≡ self.old.place }
         ensures same { self.new.configuration ≡ self.old.configuration }
-        ensures leads { (choice : Choice) (new : State) (at : ℕ)
-            → result ≡ Next.Leads choice new at → IsDead T.eq events.now at new
+        ensures leads { (choice : Choice) (next : State) (index : ℕ)
+            → result ≡ Next.Leads choice next index → IsDeadEnd T.eq events.now index next
             → CoverNext T.eq events.now self.new.place self.new.configuration
             self.new.choices.items }
-        ensures reaches { (choice : Choice) (new : State) (at : ℕ)
-            → result ≡ Next.Leads choice new at
-            → Reaches T.eq events.now self.old.place self.old.configuration at new }
+        ensures reaches { (choice : Choice) (next : State) (index : ℕ)
+            → result ≡ Next.Leads choice next index
+            → Reaches T.eq events.now self.old.place self.old.configuration index next }
         ensures dead { result ≡ Next.Nowhere
-            → IsDead T.eq events.now self.new.place self.new.configuration }
+            → IsDeadEnd T.eq events.now self.new.place self.new.configuration }
     {
         while let Some(choice) = self.choices.pop() {
             match self

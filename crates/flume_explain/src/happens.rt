@@ -3,7 +3,7 @@ ghost use Rattle.std.specs.Prelude.{◌≡◌, ◌<◌, ℕ, false, IsTrue, leng
 ghost use Rattle.flume_explain.specs.Configurations.{call_at};
 ghost use Rattle.flume_model.specs.Log.{Opening};
 ghost use Rattle.flume_concurrent.specs.Explanations.{IsExplained};
-ghost use Rattle.flume_explain.specs.Dead.{EventLeads, EventWaits, IsDead};
+ghost use Rattle.flume_explain.specs.Dead.{EventLeads, EventWaits, IsDeadEnd};
 ghost use Rattle.flume_explain.specs.Reached.{AreExplained, EventFits, IsReached, Reaches};
 ghost use Rattle.flume_explain.specs.Happens.{may_end, with_call, without_call};
 ghost use Rattle.flume_explain.specs.declared.configuration.OpenCall.{OpenCall};
@@ -90,9 +90,9 @@ impl<A: Allocator + Copy> Configuration<A> {
         ensures within { (next : ℕ) (own : OpenCall) → result ≡ Forced.Stops next own
             → next < length events.now }
         ensures stops { (next : ℕ) (own : OpenCall) → result ≡ Forced.Stops next own
-            → IsDead T.eq events.now next self.new → IsDead T.eq events.now place self.old }
+            → IsDeadEnd T.eq events.now next self.new → IsDeadEnd T.eq events.now place self.old }
         ensures dead { (next : ℕ) → result ≡ Forced.Dead next
-            → IsDead T.eq events.now place self.old }
+            → IsDeadEnd T.eq events.now place self.old }
         ensures all { result ≡ Forced.AtEnd → (opening : Opening)
             → IsReached T.eq events.now opening place self.old
             → IsExplained T.eq opening events.now }

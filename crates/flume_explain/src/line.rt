@@ -1,7 +1,8 @@
 //! The queue of a configuration, and the blocked sends that join it.
 ghost use Rattle.std.specs.Prelude.{◌≡◌, ◌∷◌, [], IfNone, IfSome, IfOk};
 ghost use Rattle.std.specs.Result.{OnOk};
-ghost use Rattle.flume_explain.specs.ByPlaces.{closed_now, full_now, admit, refill, with_front};
+ghost use Rattle.flume_explain.specs.ByPlaces.{closed_now, full_now, admit, admit_if_room};
+ghost use Rattle.flume_explain.specs.ByPlaces.{with_front};
 ghost use Rattle.flume_explain.specs.ByPlaces.{admit_all};
 ghost use Rattle.flume_explain.specs.Taken.{taken_front};
 
@@ -33,8 +34,8 @@ impl<A: Allocator + Copy> Configuration<A> {
         }
     }
 
-    fn refill(&mut self) -> Result<(), AllocError>
-        ensures refilled { OnOk result (self.new ≡ refill self.old) }
+    fn admit_if_room(&mut self) -> Result<(), AllocError>
+        ensures admitted { OnOk result (self.new ≡ admit_if_room self.old) }
     {
         if self.is_full() { Ok(()) } else { self.admit() }
     }
@@ -56,7 +57,7 @@ impl<A: Allocator + Copy> Configuration<A> {
         match take_first(&mut self.queue) {
             None => Ok(None),
             Some(place) => {
-                self.refill()?;
+                self.admit_if_room()?;
                 Ok(Some(place))
             }
         }

@@ -34,12 +34,12 @@ impl<A: Allocator + Copy> Configuration<A> {
             Move::DropReceiver => Ok(self.drop_receiver(place)),
             Move::SetCapacity(capacity) => self.set_capacity(capacity, place),
             Move::Len => Ok(PlaceReply::Number(self.queue.len())),
-            Move::IsEmpty => Ok(PlaceReply::Truth(self.queue.is_empty())),
-            Move::IsFull => Ok(PlaceReply::Truth(self.is_full())),
+            Move::IsEmpty => Ok(PlaceReply::Flag(self.queue.is_empty())),
+            Move::IsFull => Ok(PlaceReply::Flag(self.is_full())),
             Move::Capacity => Ok(PlaceReply::Capacity(self.capacity)),
             Move::SenderCount => Ok(PlaceReply::Number(self.senders)),
             Move::ReceiverCount => Ok(PlaceReply::Number(self.receivers)),
-            Move::IsDisconnected => Ok(PlaceReply::Truth(self.is_closed())),
+            Move::IsDisconnected => Ok(PlaceReply::Flag(self.is_closed())),
         }
     }
 }

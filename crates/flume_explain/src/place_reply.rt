@@ -25,7 +25,7 @@ pub enum PlaceReply {
     NoEnd,
     CountFull,
     Number(usize),
-    Truth(bool),
+    Flag(bool),
     Capacity(Option<usize>),
     Unbounded,
 }

@@ -7,7 +7,7 @@ ghost use Rattle.flume_explain.specs.Outcomes.{outcome, poll_outcome_as, withdra
 ghost use Rattle.flume_explain.specs.Outcomes.{leaves_with, poll_line_outcome};
 ghost use Rattle.flume_explain.specs.Outcomes.{receive_outcome_from};
 ghost use Rattle.flume_explain.specs.declared.place_reply.PlaceReply.{PlaceReply};
-ghost use Rattle.flume_explain.specs.Receives.{receive_of, without_place};
+ghost use Rattle.flume_explain.specs.Receives.{receive_at, without_place};
 ghost use Rattle.flume_explain.specs.declared.step_of.Move.{Move};
 
 use crate::configuration::{Configuration, ParkedReceive, Status};
@@ -62,7 +62,7 @@ impl<A: Allocator + Copy> Configuration<A> {
         ensures outcome { IfOk result (λ reply.
             (reply, self.new) ≡ outcome Move.Poll place self.old) }
     {
-        match receive_of(self.receives.as_slice(), place) {
+        match receive_at(self.receives.as_slice(), place) {
             None => Ok(PlaceReply::NoTicket),
             Some(receive) => self.poll_as(place, receive.kind, receive.status),
         }
@@ -106,7 +106,7 @@ impl<A: Allocator + Copy> Configuration<A> {
     fn ask_again(&mut self, place: usize) -> Result<(), AllocError>
         ensures asks_again { OnOk result (self.new ≡ ask_again place self.old) }
     {
-        match receive_of(self.receives.as_slice(), place) {
+        match receive_at(self.receives.as_slice(), place) {
             Some(receive) if receive.is_awake() => {
                 self.remove_receive(place);
                 self.receives.push(ParkedReceive {
@@ -123,7 +123,7 @@ impl<A: Allocator + Copy> Configuration<A> {
         ensures outcome { IfOk result (λ reply.
             (reply, self.new) ≡ outcome Move.Withdraw place self.old) }
     {
-        match receive_of(self.receives.as_slice(), place) {
+        match receive_at(self.receives.as_slice(), place) {
             None => Ok(PlaceReply::NoTicket),
             Some(receive) => self.withdraw_as(place, receive.kind, receive.status),
         }
@@ -170,7 +170,7 @@ impl<A: Allocator + Copy> Configuration<A> {
     fn leave(&mut self, place: usize)
         ensures leaves { self.new ≡ leave place self.old }
     {
-        let found = receive_of(self.receives.as_slice(), place);
+        let found = receive_at(self.receives.as_slice(), place);
         self.remove_receive(place);
         if let Some(receive) = found {
             if receive.is_awake() {
@@ -186,8 +186,8 @@ impl<A: Allocator + Copy> Configuration<A> {
     }
 }
 
-pub(crate) fn receive_of(receives: &[ParkedReceive], place: usize) -> Option<ParkedReceive>
-    ensures first { result ≡ receive_of place receives.now }
+pub(crate) fn receive_at(receives: &[ParkedReceive], place: usize) -> Option<ParkedReceive>
+    ensures first { result ≡ receive_at place receives.now }
 {
     for receive in receives {
         if receive.place == place {

@@ -1,11 +1,12 @@
 //! Which moves may be refused memory or a ticket.
 ghost use Rattle.std.specs.Prelude.{◌≡◌};
-ghost use Rattle.flume_explain.specs.Receives.{receive_of};
-ghost use Rattle.flume_explain.specs.Refusals.{is_looking, looks, may_be_refused, some_blocked};
+ghost use Rattle.flume_explain.specs.Receives.{receive_at};
+ghost use Rattle.flume_explain.specs.Refusals.{is_looking, looks_at_line, may_be_refused};
+ghost use Rattle.flume_explain.specs.Refusals.{some_blocked};
 ghost use Rattle.flume_explain.specs.Refusals.{some_queued};
 
 use crate::configuration::{Configuration, ParkedReceive, Status};
-use crate::receives::receive_of;
+use crate::receives::receive_at;
 use crate::step_of::Move;
 use flume_model::step::Kind;
 use std::alloc::Allocator;
@@ -38,18 +39,18 @@ impl<A: Allocator + Copy> Configuration<A> {
     }
 
     fn is_looking(&self, place: usize) -> bool
-        ensures looks { result ≡ is_looking (receive_of place self.now.receives) }
+        ensures looks_at_line { result ≡ is_looking (receive_at place self.now.receives) }
     {
-        match receive_of(self.receives.as_slice(), place) {
-            Some(receive) => receive.looks(),
+        match receive_at(self.receives.as_slice(), place) {
+            Some(receive) => receive.looks_at_line(),
             None => false,
         }
     }
 }
 
 impl ParkedReceive {
-    fn looks(&self) -> bool
-        ensures looks { result ≡ looks self.now.kind self.now.status }
+    fn looks_at_line(&self) -> bool
+        ensures looks_at_line { result ≡ looks_at_line self.now.kind self.now.status }
     {
         match self.status {
             Status::Filled(_) => false,

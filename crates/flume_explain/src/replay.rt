@@ -216,7 +216,7 @@ fn copy_of_answer<T: Copy + Drop, A: Allocator + Copy>(
         Answer::NoEnd => Answer::NoEnd,
         Answer::CountFull => Answer::CountFull,
         Answer::Number(number) => Answer::Number(*number),
-        Answer::Truth(truth) => Answer::Truth(*truth),
+        Answer::Flag(flag) => Answer::Flag(*flag),
         Answer::Capacity(capacity) => Answer::Capacity(*capacity),
         Answer::Unbounded => Answer::Unbounded,
     })

@@ -56,7 +56,7 @@ fn plain_reply<T, A: Allocator>(reply_by_place: PlaceReply) -> Option<Reply<T, A
         PlaceReply::NoEnd => Some(Reply::NoEnd),
         PlaceReply::CountFull => Some(Reply::CountFull),
         PlaceReply::Number(number) => Some(Reply::Number(number)),
-        PlaceReply::Truth(truth) => Some(Reply::Truth(truth)),
+        PlaceReply::Flag(flag) => Some(Reply::Flag(flag)),
         PlaceReply::Capacity(capacity) => Some(Reply::Capacity(capacity)),
         PlaceReply::Unbounded => Some(Reply::Unbounded),
         _ => None,

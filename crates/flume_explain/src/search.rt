@@ -4,7 +4,7 @@ ghost use Rattle.flume_explain.specs.Configurations.{State};
 ghost use Rattle.flume_model.specs.Log.{Opening};
 ghost use Rattle.flume_concurrent.specs.Explanations.{IsExplained};
 ghost use Rattle.std.specs.declared.vec.Vec.{Vec};
-ghost use Rattle.flume_explain.specs.Dead.{IsDead};
+ghost use Rattle.flume_explain.specs.Dead.{IsDeadEnd};
 ghost use Rattle.flume_explain.specs.Reached.{AreExplained, HasReached, IsReached};
 ghost use Rattle.flume_explain.specs.declared.choice.Choice.{Choice};
 
@@ -58,7 +58,7 @@ pub fn find_path<T: Copy + Eq + Drop, A: Allocator + Copy>(
     ensures path { (path : Vec Choice A) → result ≡ Found.Path path → (opening : Opening)
         → IsReached T.eq events.now opening 0 start → IsExplained T.eq opening events.now }
     ensures nothing { (furthest : ℕ) → result ≡ Found.Nothing furthest
-        → IsDead T.eq events.now 0 start }
+        → IsDeadEnd T.eq events.now 0 start }
     ensures furthest { (furthest : ℕ) → result ≡ Found.Nothing furthest → (opening : Opening)
         → IsReached T.eq events.now opening 0 start
         → AreExplained T.eq events.now opening furthest }
@@ -117,7 +117,7 @@ impl<A: Allocator + Copy> Search<A> {
             → AreExplained T.eq events.now opening self.new.furthest }
         ensures nowhere { result ≡ Entered.Nowhere → (start : State)
             → Searches T.eq events.now start (Unit {0}) self.old
-            → IsDead T.eq events.now 0 start }
+            → IsDeadEnd T.eq events.now 0 start }
     {
         match self.next(alloc, events) {
             Next::Leads(choice, new, at) => {
@@ -133,22 +133,22 @@ impl<A: Allocator + Copy> Search<A> {
 
     fn next<T: Copy + Eq + Drop>(&mut self, alloc: A, events: &[Event<T, A>]) -> Next<A>
         requires is_search { IsSearch T.eq events.now self.old }
-        ensures leads { (choice : Choice) (new : State) (at : ℕ)
-            → result ≡ Next.Leads choice new at → (start : State)
+        ensures leads { (choice : Choice) (next : State) (index : ℕ)
+            → result ≡ Next.Leads choice next index → (start : State)
             → Searches T.eq events.now start (Unit {0}) self.old
-            → Searches T.eq events.now start (IsDead T.eq events.now at new) self.new }
-        ensures reached { (choice : Choice) (new : State) (at : ℕ)
-            → result ≡ Next.Leads choice new at → (opening : Opening)
+            → Searches T.eq events.now start (IsDeadEnd T.eq events.now index next) self.new }
+        ensures reached { (choice : Choice) (next : State) (index : ℕ)
+            → result ≡ Next.Leads choice next index → (opening : Opening)
             → HasReached T.eq events.now opening self.old
             → HasReached T.eq events.now opening self.new }
-        ensures reaches { (choice : Choice) (new : State) (at : ℕ)
-            → result ≡ Next.Leads choice new at → (opening : Opening)
+        ensures reaches { (choice : Choice) (next : State) (index : ℕ)
+            → result ≡ Next.Leads choice next index → (opening : Opening)
             → HasReached T.eq events.now opening self.old
-            → IsReached T.eq events.now opening at new }
+            → IsReached T.eq events.now opening index next }
         ensures furthest { self.new.furthest ≡ self.old.furthest }
         ensures nowhere { result ≡ Next.Nowhere → (start : State)
             → Searches T.eq events.now start (Unit {0}) self.old
-            → IsDead T.eq events.now 0 start }
+            → IsDeadEnd T.eq events.now 0 start }
     {
         while let Some(mut frame) = self.frames.pop() {
             match frame.next(alloc, events) {
@@ -178,7 +178,8 @@ impl<A: Allocator + Copy> Search<A> {
         place: usize,
     ) -> Entered
         ensures goes_on { result ≡ Entered.GoesOn → (start : State)
-            → Searches T.eq events.now start (IsDead T.eq events.now place configuration) self.old
+            → Searches T.eq events.now start
+            (IsDeadEnd T.eq events.now place configuration) self.old
             → Searches T.eq events.now start (Unit {0}) self.new }
         ensures reached { result ≡ Entered.GoesOn → (opening : Opening)
             → HasReached T.eq events.now opening self.old
@@ -213,7 +214,8 @@ impl<A: Allocator + Copy> Search<A> {
     ) -> Entered
         requires { place < length events.now }
         ensures goes_on { result ≡ Entered.GoesOn → (start : State)
-            → Searches T.eq events.now start (IsDead T.eq events.now place configuration) self.old
+            → Searches T.eq events.now start
+            (IsDeadEnd T.eq events.now place configuration) self.old
             → Searches T.eq events.now start (Unit {0}) self.new }
         ensures reached { result ≡ Entered.GoesOn → (opening : Opening)
             → HasReached T.eq events.now opening self.old

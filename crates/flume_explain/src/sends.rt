@@ -2,7 +2,7 @@
 ghost use Rattle.std.specs.Prelude.{◌≡◌, ◌==◌, ◌&&◌, not, IfOk};
 ghost use Rattle.std.specs.Result.{OnOk};
 ghost use Rattle.std.specs.List.{list_any};
-ghost use Rattle.flume_explain.specs.ByPlaces.{some_waits, full_now, join, without_send};
+ghost use Rattle.flume_explain.specs.ByPlaces.{some_waits, full_now, push, without_send};
 ghost use Rattle.flume_explain.specs.Outcomes.{outcome, take_back_outcome};
 ghost use Rattle.flume_explain.specs.declared.step_of.Move.{Move};
 
@@ -18,8 +18,8 @@ impl<A: Allocator + Copy> Configuration<A> {
         !some_wait(self.receives.as_slice()) && self.is_full()
     }
 
-    fn join(&mut self, place: usize) -> Result<(), AllocError>
-        ensures joined { OnOk result (self.new ≡ join place self.old) }
+    fn push(&mut self, place: usize) -> Result<(), AllocError>
+        ensures joined { OnOk result (self.new ≡ push place self.old) }
     {
         self.queue.push(place)?;
         self.wake();
@@ -36,7 +36,7 @@ impl<A: Allocator + Copy> Configuration<A> {
         if self.has_no_room() {
             return Ok(PlaceReply::Full);
         }
-        self.join(place)?;
+        self.push(place)?;
         Ok(PlaceReply::Sent)
     }
 
@@ -51,7 +51,7 @@ impl<A: Allocator + Copy> Configuration<A> {
             self.blocked.push(place)?;
             return Ok(PlaceReply::Pending);
         }
-        self.join(place)?;
+        self.push(place)?;
         Ok(PlaceReply::Sent)
     }
 

@@ -4,7 +4,7 @@ ghost use Rattle.std.specs.Option.{option_copied};
 ghost use Rattle.std.specs.List.{Contains};
 ghost use Rattle.flume_concurrent.specs.declared.event.Event.{Event};
 ghost use Rattle.flume_explain.specs.Configurations.{State, first_answer, thread_at};
-ghost use Rattle.flume_explain.specs.Dead.{IsDead, IsSpent};
+ghost use Rattle.flume_explain.specs.Dead.{IsDeadEnd, IsSpent};
 ghost use Rattle.flume_explain.specs.Reached.{Reaches};
 ghost use Rattle.flume_explain.specs.declared.choice.Choice.{Choice};
 
@@ -36,10 +36,10 @@ impl<A: Allocator + Copy> Configuration<A> {
         choice: Choice,
     ) -> ChoiceOutcome<A>
         requires { place < length events.now }
-        ensures leads { (new : State) (at : ℕ) → result ≡ ChoiceOutcome.Leads new at
-            → IsDead T.eq events.now at new → IsSpent T.eq events.now place self.now choice }
-        ensures reaches { (new : State) (at : ℕ) → result ≡ ChoiceOutcome.Leads new at
-            → Reaches T.eq events.now place self.now at new }
+        ensures leads { (next : State) (index : ℕ) → result ≡ ChoiceOutcome.Leads next index
+            → IsDeadEnd T.eq events.now index next → IsSpent T.eq events.now place self.now choice }
+        ensures reaches { (next : State) (index : ℕ) → result ≡ ChoiceOutcome.Leads next index
+            → Reaches T.eq events.now place self.now index next }
         ensures spent { result ≡ ChoiceOutcome.Spent
             → IsSpent T.eq events.now place self.now choice }
     {
@@ -60,11 +60,11 @@ impl<A: Allocator + Copy> Configuration<A> {
         place: usize,
     ) -> ChoiceOutcome<A>
         requires { place < length events.now }
-        ensures leads { (new : State) (at : ℕ) → result ≡ ChoiceOutcome.Leads new at
-            → IsDead T.eq events.now at new
+        ensures leads { (next : State) (index : ℕ) → result ≡ ChoiceOutcome.Leads next index
+            → IsDeadEnd T.eq events.now index next
             → IsSpent T.eq events.now place self.now Choice.TakeEvent }
-        ensures reaches { (new : State) (at : ℕ) → result ≡ ChoiceOutcome.Leads new at
-            → Reaches T.eq events.now place self.now at new }
+        ensures reaches { (next : State) (index : ℕ) → result ≡ ChoiceOutcome.Leads next index
+            → Reaches T.eq events.now place self.now index next }
         ensures spent { result ≡ ChoiceOutcome.Spent
             → IsSpent T.eq events.now place self.now Choice.TakeEvent }
     {
@@ -91,11 +91,11 @@ impl<A: Allocator + Copy> Configuration<A> {
         refused: bool,
     ) -> ChoiceOutcome<A>
         requires { place < length events.now }
-        ensures leads { (new : State) (at : ℕ) → result ≡ ChoiceOutcome.Leads new at
-            → IsDead T.eq events.now at new
+        ensures leads { (next : State) (index : ℕ) → result ≡ ChoiceOutcome.Leads next index
+            → IsDeadEnd T.eq events.now index next
             → IsSpent T.eq events.now place self.now (Choice.MakeStep call other refused) }
-        ensures reaches { (new : State) (at : ℕ) → result ≡ ChoiceOutcome.Leads new at
-            → Reaches T.eq events.now place self.now at new }
+        ensures reaches { (next : State) (index : ℕ) → result ≡ ChoiceOutcome.Leads next index
+            → Reaches T.eq events.now place self.now index next }
         ensures spent { result ≡ ChoiceOutcome.Spent
             → IsSpent T.eq events.now place self.now (Choice.MakeStep call other refused) }
     {

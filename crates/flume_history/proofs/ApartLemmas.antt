@@ -36,7 +36,7 @@ module _ {T : Type 0} (c : Channel T) where
 
   -- a channel that takes a send in doesn't take none in
   pub in_or_none : TakesIn c → TakesNoneIn c → ⊥
-  in_or_none takes none = room_or_full c.capacity c.boundary (takes.1 none.1) none.2
+  in_or_none takes none = room_or_full c.capacity c.queue_len (takes.1 none.1) none.2
 
   -- a line has one front
   pub one_front : (m back : T) → IsFront c m → IsFront c back → m ≡ back

@@ -6,11 +6,11 @@ use Rattle.std.specs.Cmp.Lexicographic.{options_equiv}
 use Rattle.std.proofs.lemmas.Cmp.{nat_eq_equiv, lists_equiv}
 use Rattle.flume_model.specs.declared.step.Reply.{Reply}
 use Rattle.flume_model.specs.declared.step.Reply.TheVariants.{Sent, Full, Closed, NoMemory, Spent, Pending, Returned, Got, Parked}
-use Rattle.flume_model.specs.declared.step.Reply.TheVariants.{Gone, Drained, Number, Truth, Capacity}
+use Rattle.flume_model.specs.declared.step.Reply.TheVariants.{Gone, Drained, Number, Flag, Capacity}
 use Rattle.flume_model.specs.Log.{Log}
 use Rattle.flume_model.specs.Replies.{SameReply}
 use Rattle.flume_history.specs.Equal.{Equals}
-use Rattle.flume_history.specs.Histories.{IsSaidOf}
+use Rattle.flume_history.specs.Histories.{DescribesLog}
 use Rattle.flume_history.specs.SameRuns.{IsNoMemory}
 use Rattle.flume_history.proofs.OneRunLemmas.{want_or_not}
 
@@ -82,11 +82,11 @@ module _ {T A : Type 0} (equal : T → T → Bool) (laws : IsEquivalence equal) 
   equals_itself (Gone closed filled) = both _ _ (bool_eq_equiv.refl closed) ((options_equiv nat_eq_equiv).refl filled)
   equals_itself (Drained list) = (lists_equiv laws).refl list.items
   equals_itself (Number number) = nat_eq_equiv.refl number
-  equals_itself (Truth truth) = bool_eq_equiv.refl truth
+  equals_itself (Flag truth) = bool_eq_equiv.refl truth
   equals_itself (Capacity capacity) = (options_equiv nat_eq_equiv).refl capacity
   equals_itself _ = refl
 
   -- a log equals itself
-  pub told_by_itself : (log : Log T A) → IsSaidOf (Equals equal) log log
+  pub told_by_itself : (log : Log T A) → DescribesLog (Equals equal) log log
   told_by_itself [] = tt
   told_by_itself (p ∷ past) = (refl, equals_itself p.1, told_by_itself past)

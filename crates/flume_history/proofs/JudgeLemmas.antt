@@ -10,15 +10,15 @@ use Rattle.flume_model.specs.Log.{Log, Opening, opens}
 use Rattle.flume_model.specs.Channel.{channel}
 use Rattle.flume_model.specs.Replies.{IsRun}
 use Rattle.flume_script.specs.Script.{IsScript}
-use Rattle.flume_history.specs.Histories.{IsSaidOf, BreaksAt}
-use Rattle.flume_history.specs.HistoryText.{Pair, Says, IsPairLine, IsLawfulText, Shows, Breaks, break_text}
+use Rattle.flume_history.specs.Histories.{DescribesLog, BreaksAt}
+use Rattle.flume_history.specs.HistoryText.{Pair, IsTextOf, IsPairLine, IsLawfulText, Shows, Breaks, break_text}
 use Rattle.flume_history.proofs.FollowLemmas.{TellsWant, same_steps, breaks_at}
 use Rattle.flume_history.proofs.OneRunLemmas.{one_run}
 use Rattle.flume_history.proofs.ReplyWantLemmas.{same_want}
 use Rattle.flume_history.proofs.SameLogLemmas.{channel_same}
 
 -- the text of a reply tells whether memory was needed
-tells_want : {A : Type 0} → TellsWant (Says {A = A})
+tells_want : {A : Type 0} → TellsWant (IsTextOf {A = A})
 tells_want said reply other is also = (same_want reply other (sym is ∙ also), same_want other reply (sym also ∙ is))
 
 -- a list is what is before a place, the element there, and what is behind it
@@ -30,17 +30,18 @@ parts list place e within at =
 
 -- after each run of the same pairs the same is lawful
 shown_after : {A : Type 0} (o : Opening) (said : List Pair) (log : Log ℕ A) (step : Step ℕ) (expected : List ℕ) → IsRun o log
-    → IsSaidOf Says said log → Shows A (channel o log) step expected → (other : Log ℕ A) → IsRun o other → IsSaidOf Says said other
+    → DescribesLog IsTextOf said log → Shows A (channel o log) step expected → (other : Log ℕ A) → IsRun o other
+    → DescribesLog IsTextOf said other
     → Shows A (channel o other) step expected
 shown_after {A} o said log step expected run so shows other run' so' =
     subst (λ c. Shows A c step expected)
-    (channel_same o log other (one_run o log other run run' (same_steps Says tells_want said log other so so'))) shows
+    (channel_same o log other (one_run o log other run run' (same_steps IsTextOf tells_want said log other so so'))) shows
 
 -- if what was said isn't lawful, the history breaks
 pub breaks_there : {A : Type 0} (input : List ℕ) (capacity : Option ℕ) (history : List Pair) (place : ℕ) (step : Step ℕ) (said : List ℕ)
     → IsScript IsPairLine (lines input) capacity history → place < length history
     → (step, said) ≡ get_or history place (step, said) → (log : Log ℕ A) → IsRun (opens capacity 1) log
-    → IsSaidOf Says (reverse (take place history)) log → (expected : List ℕ)
+    → DescribesLog IsTextOf (reverse (take place history)) log → (expected : List ℕ)
     → Shows A (channel (opens capacity 1) log) step expected × (IsLawfulText A (channel (opens capacity 1) log) step said → ⊥)
     → (text : List ℕ) (status : ℕ) → text ≡ break_text (place + 2) said expected → status ≡ 1 → Breaks A input text status
 breaks_there {A} input capacity history place step said reads within at log run so expected shows text status text_is status_is =
@@ -50,11 +51,11 @@ breaks_there {A} input capacity history place step said reads within at log run 
       capacity = capacity;
       before = take place history;
       step = step;
-      said = said;
+      reply = said;
       later = drop (suc place) history;
       reads = subst (IsScript IsPairLine (lines input) capacity) cut reads;
-      breaks = subst₂ (BreaksAt {A = A} Says (opens capacity 1)) cut (sym count)
-          (breaks_at Says tells_want (opens capacity 1) history place (step, said) log within at run so
+      breaks = subst₂ (BreaksAt {A = A} IsTextOf (opens capacity 1)) cut (sym count)
+          (breaks_at IsTextOf tells_want (opens capacity 1) history place (step, said) log within at run so
           (λ reply lawful recorded. shows.1 (reply, lawful, recorded)));
       expected = expected;
       shows = shown_after (opens capacity 1) (reverse (take place history)) log step expected run so shows.0;

@@ -9,7 +9,7 @@ use Rattle.flume_model.specs.Channel.{channel}
 use Rattle.flume_model.specs.Replies.{IsReply}
 use Rattle.flume_state.specs.State.{State}
 use Rattle.flume_core.specs.Represents.{Represents}
-use Rattle.flume_core.specs.Wanting.{NoMemoryIsLawful}
+use Rattle.flume_core.specs.NoMemoryRule.{NoMemoryIsLawful}
 use Rattle.flume_script.specs.ReplyTexts.{reply_text}
 use Rattle.flume_history.specs.SameRuns.{IsNoMemory}
 use Rattle.flume_history.specs.HistoryText.{IsLawfulText, Shows}
@@ -18,7 +18,7 @@ use Rattle.flume_history.proofs.OneBlockedLemmas.{one_blocked}
 use Rattle.flume_history.proofs.OneReplyLemmas.{one_reply}
 use Rattle.flume_history.proofs.OneRunLemmas.{want_or_not}
 use Rattle.flume_history.proofs.ReplyWantLemmas.{same_want, same_text}
-use Rattle.flume_history.proofs.WantingLemmas.{want_allowed, want_only}
+use Rattle.flume_history.proofs.NoMemoryRuleLemmas.{want_allowed, want_only}
 
 module _ {A S : Type 0} {o : Opening} {log : Log ℕ A} {s : State ℕ S} (h : Represents o log s) (step : Step ℕ) (own : Reply ℕ A)
     (lawful : IsReply (channel o log) step own) (had_memory : IsNoMemory own → ⊥) where

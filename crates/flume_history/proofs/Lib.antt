@@ -15,7 +15,7 @@ pub mod SameLogLemmas
 -- Runs of the same steps are the same.
 pub mod OneRunLemmas
 -- If a state says that memory may be needed, the abstract channel may answer so.
-pub mod WantingLemmas
+pub mod NoMemoryRuleLemmas
 -- What equal replies have in common.
 pub mod EqualityLemmas
 -- A history that was followed so far is followed on, or breaks.

@@ -7,7 +7,7 @@ use Rattle.std.specs.List.{All}
 use Rattle.flume_model.specs.Log.{Log, Opening, Offer, is_ticket}
 use Rattle.flume_model.specs.Counts.{is_over}
 use Rattle.flume_model.specs.Offers.{offers, withdrawn, kept, hand_outs}
-use Rattle.flume_model.specs.Line.{line, boundary, blocked, next_ticket}
+use Rattle.flume_model.specs.Line.{line, queue_len, blocked, next_ticket}
 use Rattle.flume_model.specs.Channel.{channel, has_ticket, IsBlocked}
 use Rattle.flume_model.specs.Replies.{IsRun}
 use Rattle.flume_model.specs.Laws.{Rising}
@@ -58,7 +58,7 @@ module _ {T A : Type 0} (o : Opening) (log : Log T A) (run : IsRun o log) where
       let n = next_ticket o log in
       let of_kept : Rising n (kept log) =
       rising_filter n (λ offer. not (withdrawn log offer)) (offers log) (tickets_rise o log run) in
-      rising_drop n (boundary o log) (line log)
+      rising_drop n (queue_len o log) (line log)
       (rising_or_none n (is_over log) _ (rising_drop n (hand_outs log) (kept log) of_kept))
 
   -- two messages that are blocked under a ticket are the same

@@ -13,8 +13,8 @@ use Rattle.flume_model.specs.declared.step.Reply.TheVariants.{NoTicket, Got, Emp
 use Rattle.flume_model.specs.declared.step.Reply.TheVariants.{Gone}
 use Rattle.flume_model.specs.Parked.{LogEntry}
 use Rattle.flume_model.specs.Channel.{Channel}
-use Rattle.flume_model.specs.Asking.{IsPolledBlock, IsPolledOther, IsPolledMark, IsPolled}
-use Rattle.flume_model.specs.Asking.{IsGoneBlock, IsGoneOther, IsGoneMark, IsGone}
+use Rattle.flume_model.specs.Asking.{IsPollReplyOfBlock, IsPollReplyOfOther, IsPollReplyByMark, IsPollReply}
+use Rattle.flume_model.specs.Asking.{IsWithdrawReplyOfBlock, IsWithdrawReplyOfOther, IsWithdrawReplyByMark, IsWithdrawReply}
 use Rattle.flume_model.specs.Asking.{IsCollected}
 use Rattle.flume_model.specs.Replies.{IsReply}
 use Rattle.flume_history.proofs.FunctionLemmas.{ap2}
@@ -72,7 +72,7 @@ module _ {T A : Type 0} (c : Channel T) where
   collected held _ _ h k n o = absurd h
 
   -- one that blocks asks
-  polled_block : (mark : Mark T) → Determines A (IsPolledBlock c mark)
+  polled_block : (mark : Mark T) → Determines A (IsPollReplyOfBlock c mark)
   polled_block StillWaits Waiting Waiting h k n o = refl
   polled_block StillWaits Waiting _ h k n o = absurd k
   polled_block StillWaits _ _ h k n o = absurd h
@@ -86,7 +86,7 @@ module _ {T A : Type 0} (c : Channel T) where
   polled_block (Filled held) _ _ h k n o = absurd h
 
   -- one of another kind asks
-  polled_other : Determines A (IsPolledOther c)
+  polled_other : Determines A (IsPollReplyOfOther c)
   polled_other (NoMemory back) other h k n o = absurd (n tt)
   polled_other reply (NoMemory back) h k n o = absurd (o tt)
   polled_other (Got m) (Got other) h k n o = ap (λ m. Got m) (one_front c m other h k)
@@ -104,7 +104,7 @@ module _ {T A : Type 0} (c : Channel T) where
   polled_other _ _ h k n o = absurd h
 
   -- by its mark and its kind
-  polled_mark : (kind : Kind) (mark : Mark T) → Determines A (IsPolledMark c kind mark)
+  polled_mark : (kind : Kind) (mark : Mark T) → Determines A (IsPollReplyByMark c kind mark)
   polled_mark kind (Filled held) = collected held
   polled_mark Block StillWaits = polled_block StillWaits
   polled_mark Block Woken = polled_block Woken
@@ -112,14 +112,14 @@ module _ {T A : Type 0} (c : Channel T) where
   polled_mark _ Woken = polled_other
 
   -- a parked receiver that asks
-  pub polled : (found : Option (LogEntry T)) → Determines A (IsPolled c found)
+  pub polled : (found : Option (LogEntry T)) → Determines A (IsPollReply c found)
   polled None NoTicket NoTicket h k n o = refl
   polled None NoTicket _ h k n o = absurd k
   polled None _ _ h k n o = absurd h
   polled (Some e) reply other h k n o = polled_mark e.kind e.mark reply other h k n o
 
   -- one that blocks leaves
-  gone_block : Determines A (IsGoneBlock c)
+  gone_block : Determines A (IsWithdrawReplyOfBlock c)
   gone_block (Got m) (Got back) h k n o = ap (λ m. Got m) (one_front c m back h k)
   gone_block (Got m) (Gone closed filled) h k n o = absurd (front_or_none c m h k.0)
   gone_block (Got m) _ h k n o = absurd k
@@ -130,14 +130,14 @@ module _ {T A : Type 0} (c : Channel T) where
   gone_block _ _ h k n o = absurd h
 
   -- one of another kind leaves
-  gone_other : (t : ℕ) → Determines A (IsGoneOther c t)
+  gone_other : (t : ℕ) → Determines A (IsWithdrawReplyOfOther c t)
   gone_other t (Gone closed filled) (Gone other by) h k n o =
       ap2 (λ closed filled. Gone closed filled) (h.0 ∙ sym k.0) (h.1 ∙ sym k.1)
   gone_other t (Gone closed filled) _ h k n o = absurd k
   gone_other t _ _ h k n o = absurd h
 
   -- by its mark and its kind
-  gone_mark : (t : ℕ) (kind : Kind) (mark : Mark T) → Determines A (IsGoneMark c t kind mark)
+  gone_mark : (t : ℕ) (kind : Kind) (mark : Mark T) → Determines A (IsWithdrawReplyByMark c t kind mark)
   gone_mark t kind (Filled held) = collected held
   gone_mark t Block StillWaits = gone_block
   gone_mark t Block Woken = gone_block
@@ -145,7 +145,7 @@ module _ {T A : Type 0} (c : Channel T) where
   gone_mark t _ Woken = gone_other t
 
   -- a parked receiver that leaves
-  pub gone : (t : ℕ) (found : Option (LogEntry T)) → Determines A (IsGone c t found)
+  pub gone : (t : ℕ) (found : Option (LogEntry T)) → Determines A (IsWithdrawReply c t found)
   gone t None NoTicket NoTicket h k n o = refl
   gone t None NoTicket _ h k n o = absurd k
   gone t None _ _ h k n o = absurd h

@@ -12,7 +12,7 @@ use Rattle.flume_model.specs.declared.step.Step.TheVariants.{ReceiverCount, IsDi
 use Rattle.flume_model.specs.declared.step.Reply.TheVariants.{NoMemory}
 use Rattle.flume_model.specs.declared.step.Reply.TheVariants.{Ended}
 use Rattle.flume_model.specs.declared.step.Reply.TheVariants.{Drained, Done, NoEnd, CountFull}
-use Rattle.flume_model.specs.declared.step.Reply.TheVariants.{Number, Truth, Capacity as Bound}
+use Rattle.flume_model.specs.declared.step.Reply.TheVariants.{Number, Flag, Capacity as Bound}
 use Rattle.flume_model.specs.declared.step.Reply.TheVariants.{Unbounded}
 use Rattle.flume_model.specs.Channel.{Channel, IsBlocked}
 use Rattle.flume_model.specs.Entries.{entry_of}
@@ -106,14 +106,14 @@ module _ {T A : Type 0} (c : Channel T) where
 
   -- whether none is
   is_empty : Determines A (IsReply c IsEmpty)
-  is_empty (Truth a) (Truth b) h k n o = ap (λ a. Truth a) (h ∙ sym k)
-  is_empty (Truth a) _ h k n o = absurd k
+  is_empty (Flag a) (Flag b) h k n o = ap (λ a. Flag a) (h ∙ sym k)
+  is_empty (Flag a) _ h k n o = absurd k
   is_empty _ _ h k n o = absurd h
 
   -- whether the queue has reached the capacity
   is_full : Determines A (IsReply c IsFull)
-  is_full (Truth a) (Truth b) h k n o = ap (λ a. Truth a) (h ∙ sym k)
-  is_full (Truth a) _ h k n o = absurd k
+  is_full (Flag a) (Flag b) h k n o = ap (λ a. Flag a) (h ∙ sym k)
+  is_full (Flag a) _ h k n o = absurd k
   is_full _ _ h k n o = absurd h
 
   -- the capacity
@@ -136,8 +136,8 @@ module _ {T A : Type 0} (c : Channel T) where
 
   -- whether the channel is closed
   is_disconnected : Determines A (IsReply c IsDisconnected)
-  is_disconnected (Truth a) (Truth b) h k n o = ap (λ a. Truth a) (h ∙ sym k)
-  is_disconnected (Truth a) _ h k n o = absurd k
+  is_disconnected (Flag a) (Flag b) h k n o = ap (λ a. Flag a) (h ∙ sym k)
+  is_disconnected (Flag a) _ h k n o = absurd k
   is_disconnected _ _ h k n o = absurd h
 
   -- each step has at most one reply other than `NoMemory`, if a ticket has one blocked message

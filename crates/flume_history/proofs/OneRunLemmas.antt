@@ -13,8 +13,8 @@ use Rattle.flume_model.specs.Log.{Log, Opening}
 use Rattle.flume_model.specs.Entries.{entry_of}
 use Rattle.flume_model.specs.Parked.{LogEntry}
 use Rattle.flume_model.specs.Channel.{Channel, channel}
-use Rattle.flume_model.specs.Asking.{IsPolledMark, IsPolled}
-use Rattle.flume_model.specs.Asking.{IsGoneMark, IsGone}
+use Rattle.flume_model.specs.Asking.{IsPollReplyByMark, IsPollReply}
+use Rattle.flume_model.specs.Asking.{IsWithdrawReplyByMark, IsWithdrawReply}
 use Rattle.flume_model.specs.Replies.{IsReply, IsRun}
 use Rattle.flume_model.specs.Replies.{SameReply}
 use Rattle.flume_history.specs.SameRuns.{IsNoMemory, SameLog, SameSteps}
@@ -28,26 +28,26 @@ module _ {T : Type 0} (A : Type 0) (c : Channel T) (back other : Option T) where
   Alike P = P (NoMemory back) → P (NoMemory other) → back ≡ other
 
   -- a receiver that asks, and wanted memory, hands nothing back
-  polled_mark : (kind : Kind) (mark : Mark T) → Alike (IsPolledMark c kind mark)
+  polled_mark : (kind : Kind) (mark : Mark T) → Alike (IsPollReplyByMark c kind mark)
   polled_mark kind (Filled held) h k = absurd h
   polled_mark Block StillWaits h k = absurd h
   polled_mark Block Woken h k = absurd h
   polled_mark _ StillWaits h k = h.1 ∙ sym k.1
   polled_mark _ Woken h k = h.1 ∙ sym k.1
 
-  polled : (found : Option (LogEntry T)) → Alike (IsPolled c found)
+  polled : (found : Option (LogEntry T)) → Alike (IsPollReply c found)
   polled None h k = absurd h
   polled (Some e) h k = polled_mark e.kind e.mark h k
 
   -- one that leaves needs no memory
-  gone_mark : (t : ℕ) (kind : Kind) (mark : Mark T) → Alike (IsGoneMark c t kind mark)
+  gone_mark : (t : ℕ) (kind : Kind) (mark : Mark T) → Alike (IsWithdrawReplyByMark c t kind mark)
   gone_mark t kind (Filled held) h k = absurd h
   gone_mark t Block StillWaits h k = absurd h
   gone_mark t Block Woken h k = absurd h
   gone_mark t _ StillWaits h k = absurd h
   gone_mark t _ Woken h k = absurd h
 
-  gone : (t : ℕ) (found : Option (LogEntry T)) → Alike (IsGone c t found)
+  gone : (t : ℕ) (found : Option (LogEntry T)) → Alike (IsWithdrawReply c t found)
   gone t None h k = absurd h
   gone t (Some e) h k = gone_mark t e.kind e.mark h k
 

@@ -8,7 +8,7 @@ use Rattle.flume_model.specs.declared.step.Reply.TheVariants.{Sent, Full, Closed
 use Rattle.flume_model.specs.declared.step.Reply.TheVariants.{Pending, Accepted, Waiting, Returned}
 use Rattle.flume_model.specs.declared.step.Reply.TheVariants.{NoTicket, Got, Empty, Ended, Done}
 use Rattle.flume_model.specs.declared.step.Reply.TheVariants.{Parked, Gone, Drained}
-use Rattle.flume_model.specs.declared.step.Reply.TheVariants.{NoEnd, CountFull, Number, Truth}
+use Rattle.flume_model.specs.declared.step.Reply.TheVariants.{NoEnd, CountFull, Number, Flag}
 use Rattle.flume_model.specs.declared.step.Reply.TheVariants.{Capacity as Bound, Unbounded}
 use Rattle.flume_model.specs.Replies.{SameReply}
 use Rattle.flume_script.specs.ReplyTexts.{reply_text}
@@ -85,8 +85,8 @@ module _ {A : Type 0} where
   only_want NoEnd e = absurd (search rules)
   only_want CountFull e = absurd (search rules)
   only_want (Number number) e = absurd (had_memory (decimal number) (decimal_other number) e)
-  only_want (Truth true) e = absurd (search rules)
-  only_want (Truth false) e = absurd (search rules)
+  only_want (Flag true) e = absurd (search rules)
+  only_want (Flag false) e = absurd (search rules)
   only_want (Bound None) e = absurd (search rules)
   only_want (Bound (Some capacity)) e = absurd (had_memory (decimal capacity) (decimal_other capacity) e)
   only_want Unbounded e = absurd (search rules)

@@ -13,7 +13,7 @@ use Rattle.flume_model.specs.Log.{change, filled_by, was_filled, is_ticket}
 use Rattle.flume_model.specs.Counts.{senders, receivers, senders_after, receivers_after, is_over}
 use Rattle.flume_model.specs.Limits.{is_closed}
 use Rattle.flume_model.specs.Offers.{offers, offers_made, withdrawn, withdraws, kept, handed_out, hands_out}
-use Rattle.flume_model.specs.Line.{line, capacity, capacity_after, boundary, boundary_after, queue}
+use Rattle.flume_model.specs.Line.{line, capacity, capacity_after, queue_len, queue_len_after, queue}
 use Rattle.flume_model.specs.Line.{blocked, messages, next_ticket, tickets_issued, is_live, issues, spends}
 use Rattle.flume_model.specs.Parked.{LogEntry, entries, entries_after, is_closed_after}
 use Rattle.flume_model.specs.Channel.{Channel, channel}
@@ -28,15 +28,15 @@ Rest T = List (LogEntry T) × (ℕ → Bool) × ℕ × ℕ × ℕ
 -- a channel of these parts
 abbrev channel_of : {T : Type 0} → Option ℕ → List (Offer T) → ℕ → List T → List (Offer T) → Rest T
     → Channel T
-channel_of capacity line boundary queue blocked rest = record {
+channel_of capacity line queue_len queue blocked rest = record {
   capacity = capacity;
   line = messages line;
-  boundary = boundary;
+  queue_len = queue_len;
   queue = queue;
   blocked = blocked;
   entries = rest.0;
   is_live = rest.1;
-  next = rest.2;
+  next_ticket = rest.2;
   senders = rest.3;
   receivers = rest.4;
 }
@@ -161,22 +161,22 @@ module _ {T A : Type 0} (o : Opening) where
   next_same = by_changes (next_ticket o) (λ next done. next + tickets_issued done) (λ p past. refl)
 
   -- as much of it is queued
-  boundary_same : (log other : Log T A) → SameChanges log other → boundary o log ≡ boundary o other
-  boundary_same [] [] h = refl
-  boundary_same [] (q ∷ other) h = absurd h
-  boundary_same (p ∷ past) [] h = absurd h
-  boundary_same (p ∷ past) (q ∷ other) h =
-      ap5 (λ over capacity line n done. if over then 0 else boundary_after capacity (length line) n done)
+  queue_len_same : (log other : Log T A) → SameChanges log other → queue_len o log ≡ queue_len o other
+  queue_len_same [] [] h = refl
+  queue_len_same [] (q ∷ other) h = absurd h
+  queue_len_same (p ∷ past) [] h = absurd h
+  queue_len_same (p ∷ past) (q ∷ other) h =
+      ap5 (λ over capacity line n done. if over then 0 else queue_len_after capacity (length line) n done)
       (over_same (p ∷ past) (q ∷ other) h) (capacity_same (p ∷ past) (q ∷ other) h)
-      (line_same (p ∷ past) (q ∷ other) h) (boundary_same past other h.1) h.0
+      (line_same (p ∷ past) (q ∷ other) h) (queue_len_same past other h.1) h.0
 
   queue_same : (log other : Log T A) → SameChanges log other → queue o log ≡ queue o other
   queue_same log other h =
-      ap2 (λ n l. messages (take n l)) (boundary_same log other h) (line_same log other h)
+      ap2 (λ n l. messages (take n l)) (queue_len_same log other h) (line_same log other h)
 
   blocked_same : (log other : Log T A) → SameChanges log other → blocked o log ≡ blocked o other
   blocked_same log other h =
-      ap2 (λ n l. drop n l) (boundary_same log other h) (line_same log other h)
+      ap2 (λ n l. drop n l) (queue_len_same log other h) (line_same log other h)
 
   -- the same tickets are live
   live_same : (log other : Log T A) → SameChanges log other → is_live log ≡ is_live other
@@ -204,7 +204,7 @@ module _ {T A : Type 0} (o : Opening) where
   channel_same log other same =
       let h = same_changes log other same in
       let first = ap5 channel_of (capacity_same log other h) (line_same log other h)
-      (boundary_same log other h) (queue_same log other h) (blocked_same log other h) in
+      (queue_len_same log other h) (queue_same log other h) (blocked_same log other h) in
       ap2 (λ half rest. half rest) first
       (ap5 (λ entries live next s r. (entries, live, next, s, r)) (entries_same log other h)
       (live_same log other h) (next_same log other h) (senders_same log other h)

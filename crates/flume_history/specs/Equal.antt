@@ -8,7 +8,7 @@ use Rattle.flume_model.specs.declared.step.Reply.TheVariants.{Sent, Full, Closed
 use Rattle.flume_model.specs.declared.step.Reply.TheVariants.{Pending, Accepted, Waiting, Returned}
 use Rattle.flume_model.specs.declared.step.Reply.TheVariants.{NoTicket, Got, Empty, Ended, Parked}
 use Rattle.flume_model.specs.declared.step.Reply.TheVariants.{Gone, Drained, Done, NoEnd, CountFull}
-use Rattle.flume_model.specs.declared.step.Reply.TheVariants.{Number, Truth, Capacity, Unbounded}
+use Rattle.flume_model.specs.declared.step.Reply.TheVariants.{Number, Flag, Capacity, Unbounded}
 
 module _ {T A : Type 0} where
   -- whether two replies are equal; `equal` compares messages
@@ -33,7 +33,7 @@ module _ {T A : Type 0} where
   equal_replies equal NoEnd NoEnd = true
   equal_replies equal CountFull CountFull = true
   equal_replies equal (Number n) (Number m) = nat_eq n m
-  equal_replies equal (Truth b) (Truth c) = beq b c
+  equal_replies equal (Flag b) (Flag c) = beq b c
   equal_replies equal (Capacity n) (Capacity m) = option_eq nat_eq n m
   equal_replies equal Unbounded Unbounded = true
   equal_replies equal _ _ = false

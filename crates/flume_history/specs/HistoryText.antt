@@ -11,7 +11,7 @@ use Rattle.flume_model.specs.Replies.{IsReply, IsRun}
 use Rattle.flume_script.specs.ReplyTexts.{reply_text}
 use Rattle.flume_script.specs.Program.{Refuses}
 use Rattle.flume_script.specs.Script.{IsScript, IsStepLine}
-use Rattle.flume_history.specs.Histories.{IsSaidOf, IsHistory, BreaksAt}
+use Rattle.flume_history.specs.Histories.{DescribesLog, IsHistory, BreaksAt}
 use Rattle.flume_history.specs.SameRuns.{IsNoMemory}
 
 -- a step, and the text that is recorded of its reply
@@ -19,8 +19,8 @@ abbrev pub Pair : Type 0
 Pair = Step ℕ × List ℕ
 
 -- the text is that of this reply
-abbrev pub Says : {A : Type 0} → List ℕ → Reply ℕ A → Type 0
-Says said reply = said ≡ reply_text reply
+abbrev pub IsTextOf : {A : Type 0} → List ℕ → Reply ℕ A → Type 0
+IsTextOf text reply = text ≡ reply_text reply
 
 -- the line is this step, ` -> ` and this text of its reply
 pub record IsPairLine (line : List ℕ) (pair : Pair) : Type 0 where
@@ -30,7 +30,7 @@ pub record IsPairLine (line : List ℕ) (pair : Pair) : Type 0 where
 
 -- the text is that of a reply that is lawful there
 abbrev pub IsLawfulText : (A : Type 0) → Channel ℕ → Step ℕ → List ℕ → Type 0
-IsLawfulText A c step text = (reply : Reply ℕ A) × IsReply c step reply × Says text reply
+IsLawfulText A c step text = (reply : Reply ℕ A) × IsReply c step reply × IsTextOf text reply
 
 -- one text, or two with ` or ` between them
 abbrev pub joined : List ℕ → Option (List ℕ) → List ℕ
@@ -48,17 +48,17 @@ pub record Shows (A : Type 0) (c : Channel ℕ) (step : Step ℕ) (expected : Li
   pub are_all : (text : List ℕ)
       → IsLawfulText A c step text ↔ ((text ≡ reply_text own) ⊎ (other ≡ Some text))
 
--- what is printed if the reply on this line is `said`, and `expected` is lawful
+-- what is printed if the reply on this line is this, and `expected` is lawful
 abbrev pub break_text : ℕ → List ℕ → List ℕ → List ℕ
-break_text number said expected =
-    codes "line " ++ decimal number ++ codes ": " ++ said ++ codes ", but " ++ expected ++ 10 ∷ []
+break_text number reply expected =
+    codes "line " ++ decimal number ++ codes ": " ++ reply ++ codes ", but " ++ expected ++ 10 ∷ []
 
 -- each line is right, and the pairs are a history
 pub record PrintsCorrect (A : Type 0) (input text : List ℕ) (status : ℕ) : Type 0 where
   pub capacity : Option ℕ
   pub pairs : List Pair
   pub reads : IsScript IsPairLine (lines input) capacity pairs
-  pub is_history : IsHistory {A = A} Says (opens capacity 1) pairs
+  pub is_history : IsHistory {A = A} IsTextOf (opens capacity 1) pairs
   pub text_is : text ≡ codes "correct" ++ 10 ∷ []
   pub status_is : status ≡ 0
 
@@ -67,15 +67,16 @@ pub record Breaks (A : Type 0) (input text : List ℕ) (status : ℕ) : Type 0 w
   pub capacity : Option ℕ
   pub before : List Pair
   pub step : Step ℕ
-  pub said : List ℕ
+  pub reply : List ℕ
   pub later : List Pair
-  pub reads : IsScript IsPairLine (lines input) capacity (before ++ (step, said) ∷ later)
+  pub reads : IsScript IsPairLine (lines input) capacity (before ++ (step, reply) ∷ later)
   pub breaks :
-      BreaksAt {A = A} Says (opens capacity 1) (before ++ (step, said) ∷ later) (length before)
+      BreaksAt {A = A} IsTextOf (opens capacity 1) (before ++ (step, reply) ∷ later) (length before)
   pub expected : List ℕ
-  pub shows : (log : Log ℕ A) → IsRun (opens capacity 1) log → IsSaidOf Says (reverse before) log
+  pub shows : (log : Log ℕ A) → IsRun (opens capacity 1) log
+      → DescribesLog IsTextOf (reverse before) log
       → Shows A (channel (opens capacity 1) log) step expected
-  pub text_is : text ≡ break_text (length before + 2) said expected
+  pub text_is : text ≡ break_text (length before + 2) reply expected
   pub status_is : status ≡ 1
 
 -- this text is printed of these bytes, with this status; A allocates the lists of the replies

@@ -7,7 +7,7 @@ ghost use Rattle.flume_model.specs.declared.step.Reply.{Reply};
 ghost use Rattle.flume_model.specs.declared.step.Step.{Step};
 ghost use Rattle.flume_state.specs.State.{State};
 ghost use Rattle.flume_core.specs.Represents.{Represents};
-ghost use Rattle.flume_core.specs.Wanting.{NoMemoryIsLawful};
+ghost use Rattle.flume_core.specs.NoMemoryRule.{NoMemoryIsLawful};
 ghost use Rattle.flume_history.specs.Equal.{equal_replies, Equals};
 ghost use Rattle.flume_history.specs.Histories.{IsHistory};
 ghost use Rattle.flume_history.specs.SameRuns.{IsNoMemory, SameLog, SameSteps};

@@ -1,6 +1,7 @@
 //! Histories as text: steps with recorded replies.
 ghost use Rattle.flume_core.specs.Represents.{Represents};
-ghost use Rattle.flume_history.specs.HistoryText.{IsLawfulText, IsPairLine, Judges, Says, Shows};
+ghost use Rattle.flume_history.specs.HistoryText.{IsLawfulText, IsPairLine, IsTextOf};
+ghost use Rattle.flume_history.specs.HistoryText.{Judges, Shows};
 ghost use Rattle.flume_history.specs.HistoryText.{break_text};
 ghost use Rattle.flume_model.specs.Channel.{channel};
 ghost use Rattle.flume_model.specs.Log.{Log, Opening};
@@ -38,7 +39,7 @@ pub fn check_script<A: Allocator + Copy>(
     alloc: A,
     input: &[u8],
 ) -> Result<ScriptOutput<A>, NoMemory>
-    ensures judges { IfOk result (λ script. Judges A input.now script.text.items script.status) }
+    ensures judges { IfOk result (λ output. Judges A input.now output.text.items output.status) }
 {
     match read_script(alloc, input)? {
         Reading::Wrong { line } => refuse(alloc, line),
@@ -51,15 +52,15 @@ fn judge<A: Allocator + Copy>(
     capacity: Option<usize>,
     pairs: &[Pair<'_>],
 ) -> Result<ScriptOutput<A>, NoMemory>
-    ensures judges { IfOk result (λ script. (input : List ℕ)
+    ensures judges { IfOk result (λ output. (input : List ℕ)
         → IsScript IsPairLine (lines input) capacity pairs.now
-        → Judges A input script.text.items script.status) }
+        → Judges A input output.text.items output.status) }
 {
     let mut chan = Chan::new(alloc, capacity);
     for place in 0..pairs.len() {
         let pair = &pairs[place];
-        if let Some(expected) = expected_text(alloc, &mut chan, pair.step, pair.said)? {
-            let text = write_break(alloc, place + 2, pair.said, &expected)?;
+        if let Some(expected) = expected_text(alloc, &mut chan, pair.step, pair.reply)? {
+            let text = write_break(alloc, place + 2, pair.reply, &expected)?;
             return Ok(ScriptOutput { text, status: 1 });
         }
     }
@@ -73,20 +74,20 @@ fn expected_text<A: Allocator + Copy>(
     alloc: A,
     chan: &mut Chan<u64, (), A>,
     step: Step<u64>,
-    said: &[u8],
+    text: &[u8],
 ) -> Result<Option<Vec<u8, A>>, NoMemory>
     ensures lawful { IfOk result (λ r. IfNone r ((opening : Opening) (log : Log ℕ A)
         → Represents opening log chan.old
-        → (reply : Reply ℕ A) × Says said.now reply
+        → (reply : Reply ℕ A) × IsTextOf text.now reply
         × Represents opening ((step, reply) ∷ log) chan.new)) }
     ensures not_lawful { IfOk result (λ r. IfSome r (λ expected. (opening : Opening) (log : Log ℕ A)
         → Represents opening log chan.old
         → Shows A (channel opening log) step expected.items
-        × ¬ IsLawfulText A (channel opening log) step said.now)) }
+        × ¬ IsLawfulText A (channel opening log) step text.now)) }
 {
     let may_refuse = chan.no_memory_is_lawful(&step);
     let refusal = text_of(alloc, &Reply::NoMemory(handed_in(&step)))?;
-    if may_refuse && refusal.as_slice() == said {
+    if may_refuse && refusal.as_slice() == text {
         return Ok(None);
     }
     let reply = chan.step(step);
@@ -94,7 +95,7 @@ fn expected_text<A: Allocator + Copy>(
         return Err(NoMemory);
     }
     let mut own = text_of(alloc, &reply)?;
-    if own.as_slice() == said {
+    if own.as_slice() == text {
         return Ok(None);
     }
     if !may_refuse {
@@ -118,15 +119,15 @@ fn text_of<A: Allocator + Copy>(alloc: A, reply: &Reply<u64, A>) -> Result<Vec<u
 fn write_break<A: Allocator + Copy>(
     alloc: A,
     line: usize,
-    said: &[u8],
+    reply: &[u8],
     expected: &[u8],
 ) -> Result<Vec<u8, A>, NoMemory>
-    ensures value { IfOk result (λ text. text.items ≡ break_text line said.now expected.now) }
+    ensures value { IfOk result (λ text. text.items ≡ break_text line reply.now expected.now) }
 {
     let mut place = String::new(alloc);
     write!(place, "line {line}: ")?;
     let mut text = place.into_bytes();
-    text.extend_from_slice(said)?;
+    text.extend_from_slice(reply)?;
     text.extend_from_slice(b", but ")?;
     text.extend_from_slice(expected)?;
     text.extend_from_slice(b"\n")?;

@@ -1,6 +1,8 @@
 -- The cases of how a parked receiver is answered, when it asks and when it leaves.
-use Rattle.flume_model.proofs.Common.{◌≡◌, ℕ, Bool, true, false, [], Option, Some, None, refl, sym, ap, subst, IsPolledBlock, IsPolledOther}
-use Rattle.flume_model.proofs.Common.{IsPolledMark, IsPolled, IsGoneOther, IsGoneBlock, IsGoneMark, IsGone, Channel, IsFront}
+use Rattle.flume_model.proofs.Common.{◌≡◌, ℕ, Bool, true, false, [], Option, Some, None, refl, sym, ap, subst}
+use Rattle.flume_model.proofs.Common.{IsPollReplyOfBlock, IsPollReplyOfOther}
+use Rattle.flume_model.proofs.Common.{IsPollReplyByMark, IsPollReply, IsWithdrawReplyOfOther, IsWithdrawReplyOfBlock}
+use Rattle.flume_model.proofs.Common.{IsWithdrawReplyByMark, IsWithdrawReply, Channel, IsFront}
 use Rattle.flume_model.proofs.Common.{is_filled, is_woken, entry_of, leave_fills, IsOpen, LogEntry, Mark, Woken, Filled, Kind, Block, Reply}
 use Rattle.flume_model.proofs.Common.{NoMemory, NoTicket, Got, Ended, Gone}
 use Rattle.flume_model.specs.declared.step.Reply.TheVariants.{Waiting}
@@ -33,7 +35,7 @@ module _ {T A : Type 0} where
 
   -- what holds in each case holds of the reply to one that isn't filled, doesn't block, and asks
   polled_other : (c : Channel T) (t : ℕ) (P : Reply T A → Type 0) → WhenPolled c t P → Unfilled c t → (reply : Reply T A)
-      → IsPolledOther c reply → P reply
+      → IsPollReplyOfOther c reply → P reply
   polled_other c t P when u (Got m) h = when.takes u m h
   polled_other c t P when u (NoMemory back) h = when.refused back
   polled_other c t P when u Ended h = when.ends u h.0
@@ -42,7 +44,7 @@ module _ {T A : Type 0} where
 
   -- what holds in each case holds of the reply to one that isn't filled, blocks, and asks
   polled_block : (c : Channel T) (t : ℕ) (P : Reply T A → Type 0) → WhenPolled c t P → (u : Unfilled c t) → (mark : Mark T)
-      → u.entry.mark ≡ mark → (reply : Reply T A) → IsPolledBlock c mark reply → P reply
+      → u.entry.mark ≡ mark → (reply : Reply T A) → IsPollReplyOfBlock c mark reply → P reply
   polled_block c t P when u StillWaits is Waiting h = when.waits_on u (λ woken. absurd (let none : ⊥ = cc in none))
   polled_block c t P when u Woken is (Got m) h = when.takes u m h
   polled_block c t P when u Woken is Ended h = when.ends u h
@@ -52,7 +54,7 @@ module _ {T A : Type 0} where
 
   -- what holds in each case holds of the reply to one that asks, by its mark and its kind
   polled_mark : (c : Channel T) (t : ℕ) (P : Reply T A → Type 0) → WhenPolled c t P → (e : LogEntry T) → entry_of t c.entries ≡ Some e
-      → (k : Kind) (mark : Mark T) → e.mark ≡ mark → (reply : Reply T A) → IsPolledMark c k mark reply → P reply
+      → (k : Kind) (mark : Mark T) → e.mark ≡ mark → (reply : Reply T A) → IsPollReplyByMark c k mark reply → P reply
   polled_mark c t P when e found k (Filled held) is (Got m) h = subst (λ x. P (Got x)) (sym h) (when.collects e held found is)
   polled_mark c t P when e found k (Filled held) is _ h = absurd h
   polled_mark c t P when e found Block StillWaits is reply h =
@@ -65,11 +67,11 @@ module _ {T A : Type 0} where
       polled_other c t P when (record { entry = e; found = found; empty = ap is_filled is }) reply h
 
   -- what holds in each case holds of the reply to one that asks
-  pub polled_cases : (c : Channel T) (t : ℕ) (P : Reply T A → Type 0) (reply : Reply T A) → IsPolled c (entry_of t c.entries) reply
+  pub polled_cases : (c : Channel T) (t : ℕ) (P : Reply T A → Type 0) (reply : Reply T A) → IsPollReply c (entry_of t c.entries) reply
       → WhenPolled c t P → P reply
   polled_cases c t P reply h when = by_entry (entry_of t c.entries) refl reply h
     where
-      by_entry : (found : Option (LogEntry T)) → entry_of t c.entries ≡ found → (r : Reply T A) → IsPolled c found r → P r
+      by_entry : (found : Option (LogEntry T)) → entry_of t c.entries ≡ found → (r : Reply T A) → IsPollReply c found r → P r
       by_entry None is NoTicket h = when.unknown
       by_entry None is _ h = absurd h
       by_entry (Some e) is r h = polled_mark c t P when e is e.kind e.mark refl r h
@@ -77,19 +79,19 @@ module _ {T A : Type 0} where
   -- what holds in each case holds of the reply to one that isn't filled and leaves, if it blocks
   -- and if it doesn't
   gone_block : (c : Channel T) (t : ℕ) (P : Reply T A → Type 0) → WhenGone c t P → Unfilled c t → (reply : Reply T A)
-      → IsGoneBlock c reply → P reply
+      → IsWithdrawReplyOfBlock c reply → P reply
   gone_block c t P when u (Got m) h = when.takes u m h
   gone_block c t P when u (Gone closed filled) h = subst (λ f. P (Gone closed f)) (sym h.2) (when.fills_none u closed h.0)
   gone_block c t P when u _ h = absurd h
 
   gone_other : (c : Channel T) (t : ℕ) (P : Reply T A → Type 0) → WhenGone c t P → Unfilled c t → (reply : Reply T A)
-      → IsGoneOther c t reply → P reply
+      → IsWithdrawReplyOfOther c t reply → P reply
   gone_other c t P when u (Gone closed filled) h = subst (λ f. P (Gone closed f)) (sym h.1) (when.passes_on u closed)
   gone_other c t P when u _ h = absurd h
 
   -- what holds in each case holds of the reply to one that leaves, by its mark and its kind
   gone_mark : (c : Channel T) (t : ℕ) (P : Reply T A → Type 0) → WhenGone c t P → (e : LogEntry T) → entry_of t c.entries ≡ Some e
-      → (k : Kind) (mark : Mark T) → e.mark ≡ mark → (reply : Reply T A) → IsGoneMark c t k mark reply → P reply
+      → (k : Kind) (mark : Mark T) → e.mark ≡ mark → (reply : Reply T A) → IsWithdrawReplyByMark c t k mark reply → P reply
   gone_mark c t P when e found k (Filled held) is (Got m) h = subst (λ x. P (Got x)) (sym h) (when.collects e held found is)
   gone_mark c t P when e found k (Filled held) is _ h = absurd h
   gone_mark c t P when e found Block StillWaits is reply h =
@@ -102,11 +104,11 @@ module _ {T A : Type 0} where
       gone_other c t P when (record { entry = e; found = found; empty = ap is_filled is }) reply h
 
   -- what holds in each case holds of the reply to one that leaves
-  pub gone_cases : (c : Channel T) (t : ℕ) (P : Reply T A → Type 0) (reply : Reply T A) → IsGone c t (entry_of t c.entries) reply
+  pub gone_cases : (c : Channel T) (t : ℕ) (P : Reply T A → Type 0) (reply : Reply T A) → IsWithdrawReply c t (entry_of t c.entries) reply
       → WhenGone c t P → P reply
   gone_cases c t P reply h when = by_entry (entry_of t c.entries) refl reply h
     where
-      by_entry : (found : Option (LogEntry T)) → entry_of t c.entries ≡ found → (r : Reply T A) → IsGone c t found r → P r
+      by_entry : (found : Option (LogEntry T)) → entry_of t c.entries ≡ found → (r : Reply T A) → IsWithdrawReply c t found r → P r
       by_entry None is NoTicket h = when.unknown
       by_entry None is _ h = absurd h
       by_entry (Some e) is r h = gone_mark c t P when e is e.kind e.mark refl r h

@@ -15,7 +15,7 @@ module _ {T A : Type 0} where
   holds o log lawful = record {
     replies_lawful = lawful;
     in_order = in_order o log lawful;
-    boundary_within = (shape_of o log lawful).within;
+    queue_len_within = (shape_of o log lawful).within;
     woken_cover = covered o log lawful;
     queue_bounded = bounded o log lawful;
   }

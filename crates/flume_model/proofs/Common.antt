@@ -18,8 +18,15 @@ pub use Rattle.std.proofs.lemmas.Option.{get_or_from_slice_get, slice_get-get_or
 pub use Rattle.std.proofs.lemmas.Slice.Zip.{AllZip-long, all_zipped_more}
 pub use Rattle.std.specs.List.{slice_get, All, filter, AllZip}
 pub use Rattle.flume_model.specs.AllBlock.{parks_blocking, OnlyBlockingReceivers, IsAtMostCapacity}
-pub use Rattle.flume_model.specs.Asking.{IsPolledBlock, IsPolledOther, IsPolledMark, IsPolled, IsGoneBlock, IsGoneOther}
-pub use Rattle.flume_model.specs.Asking.{IsGoneMark, IsGone}
+pub use Rattle.flume_model.specs.Asking.{
+  IsPollReplyOfBlock,
+  IsPollReplyOfOther,
+  IsPollReplyByMark,
+  IsPollReply,
+  IsWithdrawReplyOfBlock,
+  IsWithdrawReplyOfOther,
+}
+pub use Rattle.flume_model.specs.Asking.{IsWithdrawReplyByMark, IsWithdrawReply}
 pub use Rattle.flume_model.specs.Beginnings.{Holds, HoldsThroughout}
 pub use Rattle.flume_model.specs.Channel.{Channel, IsFront, channel, TakesIn, TakesNoneIn, IsAccepted, IsBlocked, has_ticket}
 pub use Rattle.flume_model.specs.Conserved.{held_messages, gives, given_out, IsConserved, Conserved, messages_in}
@@ -29,11 +36,11 @@ pub use Rattle.flume_model.specs.Entries.{is_waiting}
 pub use Rattle.flume_model.specs.Entries.{some_wait, waiting_count, woken_count, round_for, round_for_fills, again_as, again, passes_on}
 pub use Rattle.flume_model.specs.Entries.{after_leave, marked, held_in, held_by}
 pub use Rattle.std.specs.Option.{option_or}
-pub use Rattle.flume_model.specs.Fills.{FillIs, IsOf, shows_to, shown}
+pub use Rattle.flume_model.specs.Fills.{FillIs, IsHandOutOf, shows_to, shown}
 pub use Rattle.flume_model.specs.Laws.{IsBelow, IsEarlier, Rising, InOrder}
 pub use Rattle.flume_model.specs.Limits.{IsOpen, most, HasRoom, IsAtCapacity, is_closed, IsClosed, IsBounded}
-pub use Rattle.flume_model.specs.Line.{tickets_issued, issues, fill_count, next_ticket, queue, spends, is_live, line, boundary, messages}
-pub use Rattle.flume_model.specs.Line.{boundary_after, blocked, capacity, capacity_after, greater, greatest}
+pub use Rattle.flume_model.specs.Line.{tickets_issued, issues, fill_count, next_ticket, queue, spends, is_live, line, queue_len, messages}
+pub use Rattle.flume_model.specs.Line.{queue_len_after, blocked, capacity, capacity_after, greater, greatest}
 pub use Rattle.flume_model.specs.Log.{Log, Opening, Change, Queues, Blocks, Accepts, Withdraws, Takes, Drains, Parks, Asks, Collects}
 pub use Rattle.flume_model.specs.Log.{Leaves, SenderJoins, ReceiverJoins, SenderLeaves, ReceiverLeaves, Resizes, Stays, is_ticket}
 pub use Rattle.flume_model.specs.Log.{filled_by}
@@ -42,7 +49,15 @@ pub use Rattle.flume_model.specs.Offers.{fill, hands_out, kept, handed_out, hand
 pub use Rattle.flume_model.specs.Parked.{LogEntry, same_notice, entries_after, entries, is_closed_after, new_entry, peak}
 pub use Rattle.flume_model.specs.Producers.{HandedOutInOrder}
 pub use Rattle.flume_model.specs.Replies.{IsRun, IsReply}
-pub use Rattle.flume_model.specs.WaitLaws.{Apart, SidesApart, FilledIfNamed, block_woken, is_block, IsWithinCapacity, Bounded}
+pub use Rattle.flume_model.specs.WaitLaws.{
+  DistinctTickets,
+  TicketsDisjoint,
+  FilledIfNamed,
+  block_woken,
+  is_block,
+  IsWithinCapacity,
+  Bounded,
+}
 pub use Rattle.flume_model.specs.WaitLaws.{Covered}
 pub use Rattle.flume_model.specs.WaitLaws.{WokenBlockWhileClosed}
 pub use Rattle.flume_model.specs.WakeRule.{IsPassed, IsWakeRound}

@@ -4,7 +4,7 @@ use Rattle.flume_model.proofs.Common.{sym, ◌∙◌, ap, arith, inl, inr, ◌�
 use Rattle.flume_model.proofs.Common.{entry_of, round, round_fills, without_ticket, tickets_issued, issues}
 use Rattle.flume_model.proofs.Common.{Change, Queues, Blocks, Takes, Parks, Asks}
 use Rattle.flume_model.proofs.Common.{Collects, Leaves, SenderLeaves, ReceiverLeaves, is_ticket, LogEntry}
-use Rattle.flume_model.proofs.Common.{same_notice, entries_after, Apart}
+use Rattle.flume_model.proofs.Common.{same_notice, entries_after, DistinctTickets}
 use Rattle.flume_model.proofs.Common.{Mark, common_steps}
 use Rattle.flume_model.proofs.EntryListLemmas.{tickets_round, tickets_woken, ticket_of, fills_none_else, none_same, none_without, none_push}
 use Rattle.flume_model.proofs.EntryListLemmas.{round_for_push, again_cases, leave_cases}
@@ -20,7 +20,7 @@ module _ {T : Type 0} where
   fills _ = None
 
   -- a round leaves the tickets apart
-  apart_round : (n : ℕ) (front : T) (es : List (LogEntry T)) → Apart n es → Apart n (round same_notice front es)
+  apart_round : (n : ℕ) (front : T) (es : List (LogEntry T)) → DistinctTickets n es → DistinctTickets n (round same_notice front es)
   apart_round n front es h = apart_same n es (round same_notice front es) (sym (tickets_round same_notice front es)) h
 
   -- a wake round gives no entry a ticket that none had
@@ -28,8 +28,8 @@ module _ {T : Type 0} where
   none_round t front es h = none_same t es (round same_notice front es) (sym (tickets_round same_notice front es)) h
 
   -- if an end leaves, the tickets stay apart
-  apart_close : (n : ℕ) (closes : Bool) (es : List (LogEntry T)) → Apart n es
-      → Apart (n + 0) (if closes then all_woken same_notice es else es)
+  apart_close : (n : ℕ) (closes : Bool) (es : List (LogEntry T)) → DistinctTickets n es
+      → DistinctTickets (n + 0) (if closes then all_woken same_notice es else es)
   apart_close n true es h = apart_above n (n + 0) _ (omega arith) (apart_same n es _ (sym (tickets_woken same_notice es)) h)
   apart_close n false es h = apart_above n (n + 0) es (omega arith) h
 
@@ -45,30 +45,34 @@ module _ {T : Type 0} where
   filled_close was closes es h = grind (arith, common_steps, filled_woken same_notice was es)
 
   -- after a change that fits, the tickets of entries are apart
-  pub apart_by : (c : Channel T) (closes : Bool) (done : Change T) → Fits c done → Apart c.next c.entries
-      → Apart (c.next + tickets_issued done) (entries_after c.queue closes c.entries done)
+  pub apart_by : (c : Channel T) (closes : Bool) (done : Change T) → Fits c done → DistinctTickets c.next_ticket c.entries
+      → DistinctTickets (c.next_ticket + tickets_issued done) (entries_after c.queue closes c.entries done)
   apart_by c closes (Queues m filled) h apart =
-      apart_above c.next (c.next + 0) _ (omega arith)
-      (round_for_push (Apart c.next) same_notice c.queue m c.entries (λ front. apart_round c.next front c.entries apart))
-  apart_by c closes (Takes m (Some t)) h apart = apart_above c.next (c.next + 0) _ (omega arith) (apart_without c.next t c.entries apart)
+      apart_above c.next_ticket (c.next_ticket + 0) _ (omega arith)
+      (round_for_push (DistinctTickets c.next_ticket) same_notice c.queue m c.entries
+      (λ front. apart_round c.next_ticket front c.entries apart))
+  apart_by c closes (Takes m (Some t)) h apart = apart_above c.next_ticket (c.next_ticket + 0) _ (omega arith)
+      (apart_without c.next_ticket t c.entries apart)
   apart_by c closes (Parks t kind) h apart =
-      let same : t ≡ c.next = h.3 in
-      apart_push (c.next + 1) c.entries _ (apart_above c.next (c.next + 1) c.entries (omega arith) apart)
-      (none_past c.next t c.entries (omega arith) apart) (omega arith)
+      let same : t ≡ c.next_ticket = h.3 in
+      apart_push (c.next_ticket + 1) c.entries _ (apart_above c.next_ticket (c.next_ticket + 1) c.entries (omega arith) apart)
+      (none_past c.next_ticket t c.entries (omega arith) apart) (omega arith)
   apart_by c closes (Asks t) h apart =
-      apart_above c.next (c.next + 0) _ (omega arith) (again_cases (Apart c.next) t c.entries apart
-      (λ e found woken. apart_push c.next (without_ticket t c.entries) _ (apart_without c.next t c.entries apart)
-      (ap (λ u. entry_of u (without_ticket t c.entries)) (ticket_of t e c.entries found) ∙ left_out c.next t c.entries apart)
-      (let below = found_below c.next t e c.entries found apart in let same = ticket_of t e c.entries found in omega arith)))
-  apart_by c closes (Collects t) h apart = apart_above c.next (c.next + 0) _ (omega arith) (apart_without c.next t c.entries apart)
+      apart_above c.next_ticket (c.next_ticket + 0) _ (omega arith) (again_cases (DistinctTickets c.next_ticket) t c.entries apart
+      (λ e found woken. apart_push c.next_ticket (without_ticket t c.entries) _ (apart_without c.next_ticket t c.entries apart)
+      (ap (λ u. entry_of u (without_ticket t c.entries)) (ticket_of t e c.entries found) ∙ left_out c.next_ticket t c.entries apart)
+      (let below = found_below c.next_ticket t e c.entries found apart in let same = ticket_of t e c.entries found in omega arith)))
+  apart_by c closes (Collects t) h apart = apart_above c.next_ticket (c.next_ticket + 0) _ (omega arith)
+      (apart_without c.next_ticket t c.entries apart)
   apart_by c closes (Leaves t filled) h apart =
-      let others = apart_without c.next t c.entries apart in
-      apart_above c.next (c.next + 0) _ (omega arith) (leave_cases (λ es f. Apart c.next es) same_notice t c.queue c.entries
-      (λ none. others) (λ passes front rest e. apart_round c.next front (without_ticket t c.entries) others))
-  apart_by c closes SenderLeaves h apart = apart_close c.next closes c.entries apart
-  apart_by c closes ReceiverLeaves h apart = apart_close c.next closes c.entries apart
-  apart_by c closes (Blocks m t) h apart = apart_above c.next (c.next + 1) c.entries (omega arith) apart
-  apart_by c closes _ h apart = apart_above c.next (c.next + 0) c.entries (omega arith) apart
+      let others = apart_without c.next_ticket t c.entries apart in
+      apart_above c.next_ticket (c.next_ticket + 0) _ (omega arith)
+      (leave_cases (λ es f. DistinctTickets c.next_ticket es) same_notice t c.queue c.entries
+      (λ none. others) (λ passes front rest e. apart_round c.next_ticket front (without_ticket t c.entries) others))
+  apart_by c closes SenderLeaves h apart = apart_close c.next_ticket closes c.entries apart
+  apart_by c closes ReceiverLeaves h apart = apart_close c.next_ticket closes c.entries apart
+  apart_by c closes (Blocks m t) h apart = apart_above c.next_ticket (c.next_ticket + 1) c.entries (omega arith) apart
+  apart_by c closes _ h apart = apart_above c.next_ticket (c.next_ticket + 0) c.entries (omega arith) apart
 
   -- a change that fits fills no ticket that none had
   pub fills_none : (c : Channel T) (done : Change T) (t : ℕ) → Fits c done → entry_of t c.entries ≡ None → is_ticket t (fills done) ≡ false
@@ -79,15 +83,16 @@ module _ {T : Type 0} where
   fills_none c _ t h none = refl
 
   -- after a change that fits, the entries are filled that were or are named as filled
-  pub filled_by_change : (c : Channel T) (closes : Bool) (done : Change T) (was : ℕ → Bool) → Fits c done → Apart c.next c.entries
-      → ((t : ℕ) → c.next ≤ t → was t ≡ false) → FilledBy was c.entries
+  pub filled_by_change : (c : Channel T) (closes : Bool) (done : Change T) (was : ℕ → Bool) → Fits c done
+      → DistinctTickets c.next_ticket c.entries
+      → ((t : ℕ) → c.next_ticket ≤ t → was t ≡ false) → FilledBy was c.entries
       → FilledBy (λ t. is_ticket t (fills done) || was t) (entries_after c.queue closes c.entries done)
   filled_by_change c closes (Queues m filled) was h apart past all =
       rw h.1 (round_for_push (FilledBy (λ t. is_ticket t (round_fills c.entries) || was t)) same_notice c.queue m c.entries
-      (λ front. filled_round same_notice front c.next was c.entries apart all))
+      (λ front. filled_round same_notice front c.next_ticket was c.entries apart all))
   filled_by_change c closes (Takes m (Some t)) was h apart past all = filled_without was t c.entries all
   filled_by_change c closes (Parks t kind) was h apart past all =
-      let same : t ≡ c.next = h.3 in
+      let same : t ≡ c.next_ticket = h.3 in
       filled_push was c.entries _ all (past t (omega arith))
   filled_by_change c closes (Asks t) was h apart past all =
       again_cases (FilledBy was) t c.entries all (λ e found woken. filled_push was (without_ticket t c.entries) _
@@ -101,7 +106,7 @@ module _ {T : Type 0} where
       let others = filled_without was t c.entries all in
       rw h.1 (leave_cases (λ es f. FilledBy (λ u. is_ticket u f || was u) es) same_notice t c.queue c.entries (λ e. others)
       (λ passes front rest e.
-      filled_round same_notice front c.next was (without_ticket t c.entries) (apart_without c.next t c.entries apart) others))
+      filled_round same_notice front c.next_ticket was (without_ticket t c.entries) (apart_without c.next_ticket t c.entries apart) others))
   filled_by_change c closes SenderLeaves was h apart past all = filled_close was closes c.entries all
   filled_by_change c closes ReceiverLeaves was h apart past all = filled_close was closes c.entries all
   filled_by_change c closes _ was h apart past all = all
@@ -140,19 +145,19 @@ module _ {T : Type 0} where
   none_by c closes _ t e none = none
 
   -- a ticket below the next one is no other that a receiver parks under
-  parks_later : (c : Channel T) (done : Change T) (t : ℕ) → Fits c done → t < c.next → parks_under done t ≡ false
-  parks_later c (Parks u kind) t h lt = let same : u ≡ c.next = h.3 in ne_eqb u t (λ e. omega arith)
+  parks_later : (c : Channel T) (done : Change T) (t : ℕ) → Fits c done → t < c.next_ticket → parks_under done t ≡ false
+  parks_later c (Parks u kind) t h lt = let same : u ≡ c.next_ticket = h.3 in ne_eqb u t (λ e. omega arith)
   parks_later c _ t h lt = refl
 
   -- after a change that fits, a ticket that it issues to a send, or that lived, is below the next one and no receiver's
-  pub sides_by : (c : Channel T) (closes : Bool) (done : Change T) (t : ℕ) → Fits c done → Apart c.next c.entries
-      → (c.is_live t ≡ true → (t < c.next) × (entry_of t c.entries ≡ None))
+  pub sides_by : (c : Channel T) (closes : Bool) (done : Change T) (t : ℕ) → Fits c done → DistinctTickets c.next_ticket c.entries
+      → (c.is_live t ≡ true → (t < c.next_ticket) × (entry_of t c.entries ≡ None))
       → (issues done t ≡ true) ⊎ (c.is_live t ≡ true)
-      → (t < c.next + tickets_issued done) × (entry_of t (entries_after c.queue closes c.entries done) ≡ None)
+      → (t < c.next_ticket + tickets_issued done) × (entry_of t (entries_after c.queue closes c.entries done) ≡ None)
   sides_by c closes (Blocks m u) t h apart sides (inl e) =
-      let same : u ≡ c.next = h.2 in
+      let same : u ≡ c.next_ticket = h.2 in
       let is_it = eqb-true u t e in
-      (omega arith, none_past c.next t c.entries (omega arith) apart)
+      (omega arith, none_past c.next_ticket t c.entries (omega arith) apart)
   sides_by c closes _ t h apart sides (inl e) = absurd (let none : ⊥ = cc in none)
   sides_by c closes done t h apart sides (inr live) =
       let before = sides live in

@@ -1,7 +1,7 @@
 -- Which entries are filled after a wake round, a leave and one more entry, and that their tickets stay apart.
 use Rattle.flume_model.proofs.Common.{◌≡◌, ℕ, ◌<◌, ◌≤◌, Bool, false, ◌||◌, eqb, List, [], ◌∷◌, ◌++◌, Some, None, refl, arith, eq-eqb}
 use Rattle.flume_model.proofs.Common.{or_left, is_filled, round, round_fills, all_woken, entry_of}
-use Rattle.flume_model.proofs.Common.{without_ticket, is_ticket, LogEntry, Apart}
+use Rattle.flume_model.proofs.Common.{without_ticket, is_ticket, LogEntry, DistinctTickets}
 use Rattle.flume_model.proofs.Common.{Entry, Mark, Waiting, Woken, Filled, Kind, Block, Plain, Stream, Arm, common_steps}
 use Rattle.flume_model.proofs.EntryListLemmas.{tickets, fills_none_else, none_without, none_push, none_same}
 
@@ -41,45 +41,45 @@ module _ {T N : Type 0} where
 
 module _ {T : Type 0} where
   -- a greater bound
-  pub apart_above : (n k : ℕ) (es : List (LogEntry T)) → n ≤ k → Apart n es → Apart k es
+  pub apart_above : (n k : ℕ) (es : List (LogEntry T)) → n ≤ k → DistinctTickets n es → DistinctTickets k es
   apart_above n k [] le h = tt
   apart_above n k (x ∷ es) le h = (let below = h.0 in omega arith, h.1, apart_above n k es le h.2)
 
   -- no entry has a ticket at or past the bound
-  pub none_past : (n t : ℕ) (es : List (LogEntry T)) → n ≤ t → Apart n es → entry_of t es ≡ None
+  pub none_past : (n t : ℕ) (es : List (LogEntry T)) → n ≤ t → DistinctTickets n es → entry_of t es ≡ None
   none_past n t [] le h = refl
   none_past n t (x ∷ es) le h = grind (arith, common_steps, none_past n t es)
 
   -- the ticket of an entry that is found is below the bound
-  pub found_below : (n t : ℕ) (e : LogEntry T) (es : List (LogEntry T)) → entry_of t es ≡ Some e → Apart n es → t < n
+  pub found_below : (n t : ℕ) (e : LogEntry T) (es : List (LogEntry T)) → entry_of t es ≡ Some e → DistinctTickets n es → t < n
   found_below n t e [] f h = absurd (let none : ⊥ = cc in none)
   found_below n t e (x ∷ es) f h = grind (arith, common_steps, found_below n t e es)
 
   -- lists of the same tickets are apart alike
-  pub apart_same : (n : ℕ) (es fs : List (LogEntry T)) → tickets es ≡ tickets fs → Apart n es → Apart n fs
+  pub apart_same : (n : ℕ) (es fs : List (LogEntry T)) → tickets es ≡ tickets fs → DistinctTickets n es → DistinctTickets n fs
   apart_same n [] [] e h = tt
   apart_same n [] (y ∷ fs) e h = absurd (let none : ⊥ = cc in none)
   apart_same n (x ∷ es) [] e h = absurd (let none : ⊥ = cc in none)
   apart_same n (x ∷ es) (y ∷ fs) e h = grind (arith, common_steps, apart_same n es fs, none_same)
 
   -- all entries but one are apart
-  pub apart_without : (n t : ℕ) (es : List (LogEntry T)) → Apart n es → Apart n (without_ticket t es)
+  pub apart_without : (n t : ℕ) (es : List (LogEntry T)) → DistinctTickets n es → DistinctTickets n (without_ticket t es)
   apart_without n t [] h = tt
   apart_without n t (x ∷ es) h = grind (arith, common_steps, apart_without n t es, none_without)
 
   -- none of the others has the ticket of the one that left
-  pub left_out : (n t : ℕ) (es : List (LogEntry T)) → Apart n es → entry_of t (without_ticket t es) ≡ None
+  pub left_out : (n t : ℕ) (es : List (LogEntry T)) → DistinctTickets n es → entry_of t (without_ticket t es) ≡ None
   left_out n t [] h = refl
   left_out n t (x ∷ es) h = grind (arith, common_steps, left_out n t es)
 
   -- one more entry, whose ticket none has
-  pub apart_push : (n : ℕ) (es : List (LogEntry T)) (x : LogEntry T) → Apart n es → entry_of x.ticket es ≡ None → x.ticket < n
-      → Apart n (es ++ x ∷ [])
+  pub apart_push : (n : ℕ) (es : List (LogEntry T)) (x : LogEntry T) → DistinctTickets n es → entry_of x.ticket es ≡ None → x.ticket < n
+      → DistinctTickets n (es ++ x ∷ [])
   apart_push n [] x h none below = (below, refl, tt)
   apart_push n (y ∷ es) x h none below = grind (arith, common_steps, apart_push n es x, none_push)
 
   -- after a round, the entry that it fills is filled too
-  pub filled_round : (notify : Unit {0} → Unit {0}) (front : T) (n : ℕ) (was : ℕ → Bool) (es : List (LogEntry T)) → Apart n es
+  pub filled_round : (notify : Unit {0} → Unit {0}) (front : T) (n : ℕ) (was : ℕ → Bool) (es : List (LogEntry T)) → DistinctTickets n es
       → FilledBy was es → FilledBy (λ t. is_ticket t (round_fills es) || was t) (round notify front es)
   filled_round notify front n was [] apart all = tt
   filled_round notify front n was (x ∷ es) apart all =

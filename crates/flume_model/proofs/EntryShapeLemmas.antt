@@ -4,7 +4,7 @@ use Rattle.flume_model.proofs.Common.{◌≡◌, ℕ, ◌+◌, ◌<◌, ◌≤�
 use Rattle.flume_model.proofs.Common.{refl, sym, ◌∙◌, ap, subst, arith, inl, inr, ◌⊎◌, or_from, or_cases, and_parts, channel, is_over}
 use Rattle.flume_model.proofs.Common.{entry_of, next_ticket, queue, tickets_issued, issues, spends, is_live, Log, Opening, Takes, Collects}
 use Rattle.flume_model.proofs.Common.{filled_by, was_filled, is_ticket, change, entries_after, entries, is_closed_after, IsReply, IsRun}
-use Rattle.flume_model.proofs.Common.{Apart, SidesApart, FilledIfNamed, Reply, Step, Poll, Withdraw, common_steps}
+use Rattle.flume_model.proofs.Common.{DistinctTickets, TicketsDisjoint, FilledIfNamed, Reply, Step, Poll, Withdraw, common_steps}
 use Rattle.flume_model.proofs.EntryMarkLemmas.{FilledBy, filled_found, none_past}
 use Rattle.flume_model.proofs.AskingCaseLemmas.{polled_cases, gone_cases}
 use Rattle.flume_model.proofs.LawfulReplyLemmas.{Fits, fits}
@@ -40,10 +40,10 @@ module _ {T A : Type 0} where
 
   -- what the entries of a run are
   pub record Entered (o : Opening) (log : Log T A) : Type 0 where
-    pub apart : Apart (next_ticket o log) (entries o log)
+    pub apart : DistinctTickets (next_ticket o log) (entries o log)
     pub marks : FilledBy (was_filled log) (entries o log)
     pub unfilled : (t : ℕ) → next_ticket o log ≤ t → was_filled log t ≡ false
-    pub sides : SidesApart o log
+    pub sides : TicketsDisjoint o log
 
   -- a receiver is filled exactly if a reply named its ticket as filled
   pub entered_if_named : (o : Opening) (log : Log T A) → Entered o log → FilledIfNamed o log
@@ -110,11 +110,11 @@ module _ {T A : Type 0} where
   filled_if_named o log run = entered_if_named o log (entered o log run)
 
   -- the tickets of parked receivers are apart and below the next one
-  pub entries_apart : (o : Opening) (log : Log T A) → IsRun o log → Apart (next_ticket o log) (entries o log)
+  pub entries_apart : (o : Opening) (log : Log T A) → IsRun o log → DistinctTickets (next_ticket o log) (entries o log)
   entries_apart o log run = (entered o log run).apart
 
   -- no ticket is live of a send and of a receiver
-  pub sides_apart : (o : Opening) (log : Log T A) → IsRun o log → SidesApart o log
+  pub sides_apart : (o : Opening) (log : Log T A) → IsRun o log → TicketsDisjoint o log
   sides_apart o log run = (entered o log run).sides
 
   -- what a lawful reply changes fits what is before it

@@ -1,8 +1,9 @@
 -- A lawful reply makes a change that fits what is before it.
 use Rattle.flume_model.proofs.Common.{◌≡◌, ℕ, ◌+◌, ◌<◌, true, false, if◌then◌else◌, List, [], ◌∷◌, Option, Some, None, refl, sym, ◌∙◌, ap}
-use Rattle.flume_model.proofs.Common.{arith, cond, take, take-nil, IsPolled, IsGone, Channel, TakesIn, TakesNoneIn, IsAccepted, IsBlocked}
+use Rattle.flume_model.proofs.Common.{arith, cond, take, take-nil, IsPollReply, IsWithdrawReply, Channel, TakesIn}
+use Rattle.flume_model.proofs.Common.{TakesNoneIn, IsAccepted, IsBlocked}
 use Rattle.flume_model.proofs.Common.{IsFront, channel, senders, receivers, senders_after, receivers_after, is_over, is_filled, is_woken}
-use Rattle.flume_model.proofs.Common.{entry_of, round_fills, leave_fills, passes_on, IsBounded, IsOpen, most, line, boundary, queue}
+use Rattle.flume_model.proofs.Common.{entry_of, round_fills, leave_fills, passes_on, IsBounded, IsOpen, most, line, queue_len, queue}
 use Rattle.flume_model.proofs.Common.{messages, Log}
 use Rattle.flume_model.proofs.Common.{Opening, Offer, Change, Queues, Blocks, Accepts, Withdraws, Takes, Drains, Parks, Asks, Collects}
 use Rattle.flume_model.proofs.Common.{Leaves, SenderJoins, ReceiverJoins, SenderLeaves, ReceiverLeaves, Resizes, Stays, was_filled, change}
@@ -16,13 +17,13 @@ module _ {T : Type 0} where
   -- what a change asks of the channel before it
   abbrev pub Fits : Channel T → Change T → Type 0
   Fits c (Queues m filled) = TakesIn c × (filled ≡ round_fills c.entries)
-  Fits c (Blocks m t) = TakesNoneIn c × (c.next < most) × (t ≡ c.next)
+  Fits c (Blocks m t) = TakesNoneIn c × (c.next_ticket < most) × (t ≡ c.next_ticket)
   Fits c (Accepts t) = IsAccepted c t
   Fits c (Withdraws t) = (m : T) × IsBlocked c t m
   Fits c (Takes m None) = IsFront c m
   Fits c (Takes m (Some t)) = IsFront c m × Unfilled c t
   Fits c (Drains list) = list ≡ c.queue
-  Fits c (Parks t kind) = (c.line ≡ []) × IsOpen c.senders c.receivers × (c.next < most) × (t ≡ c.next)
+  Fits c (Parks t kind) = (c.line ≡ []) × IsOpen c.senders c.receivers × (c.next_ticket < most) × (t ≡ c.next_ticket)
   Fits c (Asks t) =
       (e : LogEntry T) × (entry_of t c.entries ≡ Some e)
       × (is_woken e.mark ≡ true → (c.line ≡ []) × IsOpen c.senders c.receivers)
@@ -65,11 +66,11 @@ module _ {T A : Type 0} where
   ends : (o : Opening) (past : Log T A) (t : ℕ) → Unfilled (channel o past) t → messages (line past) ≡ []
       → Fits (channel o past) (Leaves t None)
   ends o past t u empty =
-      (u, sym (fills_none t (queue o past) (entries o past) (none_taken (boundary o past) (line past) empty)))
+      (u, sym (fills_none t (queue o past) (entries o past) (none_taken (queue_len o past) (line past) empty)))
 
   -- a parked receiver that asks
   polled : (o : Opening) (past : Log T A) (t : ℕ) (reply : Reply T A) → FilledIfNamed o past
-      → IsPolled (channel o past) (entry_of t (entries o past)) reply → Fits (channel o past) (change past (Poll t) reply)
+      → IsPollReply (channel o past) (entry_of t (entries o past)) reply → Fits (channel o past) (change past (Poll t) reply)
   polled o past t reply named h =
       polled_cases (channel o past) t (λ r. Fits (channel o past) (change past (Poll t) r)) reply h (record {
         unknown = tt;
@@ -82,7 +83,7 @@ module _ {T A : Type 0} where
 
   -- a parked receiver that leaves
   gone : (o : Opening) (past : Log T A) (t : ℕ) (reply : Reply T A) → FilledIfNamed o past
-      → IsGone (channel o past) t (entry_of t (entries o past)) reply → Fits (channel o past) (change past (Withdraw t) reply)
+      → IsWithdrawReply (channel o past) t (entry_of t (entries o past)) reply → Fits (channel o past) (change past (Withdraw t) reply)
   gone o past t reply named h =
       gone_cases (channel o past) t (λ r. Fits (channel o past) (change past (Withdraw t) r)) reply h (record {
         unknown = tt;

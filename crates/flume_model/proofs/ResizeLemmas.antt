@@ -2,7 +2,7 @@
 use Rattle.flume_model.proofs.Common.{◌≡◌, ℕ, ◌+◌, ◌<◌, ◌≤◌, Bool, true, false, not, ◌&&◌, ◌||◌, [], ◌∷◌}
 use Rattle.flume_model.proofs.Common.{length, max, min, Option, Some, None}
 use Rattle.flume_model.proofs.Common.{refl, ◌∙◌, ap, arith, cond-false, eqb, is_over, senders, receivers, IsOpen, IsBounded, Channel}
-use Rattle.flume_model.proofs.Common.{channel, line, capacity, capacity_after, boundary, is_live, Log, Opening, Change, Resizes}
+use Rattle.flume_model.proofs.Common.{channel, line, capacity, capacity_after, queue_len, is_live, Log, Opening, Change, Resizes}
 use Rattle.flume_model.proofs.Common.{change, IsRun, SetCapacity, Done, common_steps}
 use Rattle.std.specs.Prelude.{◌↔◌}
 use Rattle.flume_model.specs.Resized.{set_to, IsResized, queued_at}
@@ -38,8 +38,8 @@ module _ {T A : Type 0} where
       record {
         capacity_is = refl;
         line_is = same;
-        boundary_is = cond-false (is_over (set_to new past)) 0 _ open_
-            ∙ ap (λ l. max (boundary o past) (min new (length l))) same;
+        queue_len_is = cond-false (is_over (set_to new past)) 0 _ open_
+            ∙ ap (λ l. max (queue_len o past) (min new (length l))) same;
         entries_are = cond-false (is_over (set_to new past)) [] _ open_;
         next_is = omega arith;
         live_are = λ t. stays_live (is_over past) (is_live past t) open_;
@@ -47,16 +47,16 @@ module _ {T A : Type 0} where
 
   -- if it was set to what it was
   pub same_resized : (o : Opening) (past : Log T A) (same : ℕ) → IsRun o (set_to same past) → capacity o past ≡ Some same
-      → IsResized o past (set_to same past) same (boundary o past)
+      → IsResized o past (set_to same past) same (queue_len o past)
   same_resized o past same run e =
       let by = resized o past same run in
       let shape = shape_of o past run.1 in
-      let none : queued_at o past same ≡ boundary o past =
-      none_more (boundary o past) (length (line past)) same shape.within (λ lt. rw e at (shape.full lt)) in
+      let none : queued_at o past same ≡ queue_len o past =
+      none_more (queue_len o past) (length (line past)) same shape.within (λ lt. rw e at (shape.full lt)) in
       record {
         capacity_is = by.capacity_is;
         line_is = by.line_is;
-        boundary_is = by.boundary_is ∙ none;
+        queue_len_is = by.queue_len_is ∙ none;
         entries_are = by.entries_are;
         next_is = by.next_is;
         live_are = by.live_are;
@@ -68,12 +68,12 @@ module _ {T A : Type 0} where
   twice_resized o past high low le run =
       let first = resized o past high run.1 in
       let second = resized o (set_to high past) low run in
-      let queued = first.boundary_is in
+      let queued = first.queue_len_is in
       let long = ap length first.line_is in
       record {
         capacity_is = second.capacity_is;
         line_is = second.line_is ∙ first.line_is;
-        boundary_is = second.boundary_is ∙ omega arith;
+        queue_len_is = second.queue_len_is ∙ omega arith;
         entries_are = second.entries_are ∙ first.entries_are;
         next_is = second.next_is ∙ first.next_is;
         live_are = λ t. second.live_are t ∙ first.live_are t;

@@ -19,53 +19,53 @@ module _ {T A : Type 0} where
   IsCollected held _ = ⊥
 
   -- one that blocks waits on, or was woken as the channel closed
-  abbrev pub IsPolledBlock : Channel T → Mark T → Reply T A → Type 0
-  IsPolledBlock c StillWaits Waiting = Unit {0}
-  IsPolledBlock c Woken (Got m) = IsFront c m
-  IsPolledBlock c Woken Ended = c.line ≡ []
-  IsPolledBlock c _ _ = ⊥
+  abbrev pub IsPollReplyOfBlock : Channel T → Mark T → Reply T A → Type 0
+  IsPollReplyOfBlock c StillWaits Waiting = Unit {0}
+  IsPollReplyOfBlock c Woken (Got m) = IsFront c m
+  IsPollReplyOfBlock c Woken Ended = c.line ≡ []
+  IsPollReplyOfBlock c _ _ = ⊥
 
   -- one of another kind is answered by the line, whether it was woken or not
-  abbrev pub IsPolledOther : Channel T → Reply T A → Type 0
-  IsPolledOther c (Got m) = IsFront c m
-  IsPolledOther c (NoMemory back) = (c.boundary < length c.line) × (back ≡ None)
-  IsPolledOther c Ended = (c.line ≡ []) × IsClosed c.senders c.receivers
-  IsPolledOther c Waiting = (c.line ≡ []) × IsOpen c.senders c.receivers
-  IsPolledOther c _ = ⊥
+  abbrev pub IsPollReplyOfOther : Channel T → Reply T A → Type 0
+  IsPollReplyOfOther c (Got m) = IsFront c m
+  IsPollReplyOfOther c (NoMemory back) = (c.queue_len < length c.line) × (back ≡ None)
+  IsPollReplyOfOther c Ended = (c.line ≡ []) × IsClosed c.senders c.receivers
+  IsPollReplyOfOther c Waiting = (c.line ≡ []) × IsOpen c.senders c.receivers
+  IsPollReplyOfOther c _ = ⊥
 
   -- by its mark if it is filled, and else by its kind
-  abbrev pub IsPolledMark : Channel T → Kind → Mark T → Reply T A → Type 0
-  IsPolledMark c kind (Filled held) reply = IsCollected held reply
-  IsPolledMark c Block mark reply = IsPolledBlock c mark reply
-  IsPolledMark c kind mark reply = IsPolledOther c reply
+  abbrev pub IsPollReplyByMark : Channel T → Kind → Mark T → Reply T A → Type 0
+  IsPollReplyByMark c kind (Filled held) reply = IsCollected held reply
+  IsPollReplyByMark c Block mark reply = IsPollReplyOfBlock c mark reply
+  IsPollReplyByMark c kind mark reply = IsPollReplyOfOther c reply
 
   -- a receiver that asks again, if this is its entry
-  abbrev pub IsPolled : Channel T → Option (LogEntry T) → Reply T A → Type 0
-  IsPolled c None NoTicket = Unit {0}
-  IsPolled c None _ = ⊥
-  IsPolled c (Some e) reply = IsPolledMark c e.kind e.mark reply
+  abbrev pub IsPollReply : Channel T → Option (LogEntry T) → Reply T A → Type 0
+  IsPollReply c None NoTicket = Unit {0}
+  IsPollReply c None _ = ⊥
+  IsPollReply c (Some e) reply = IsPollReplyByMark c e.kind e.mark reply
 
   -- one that blocks takes the front with it, if there is one
-  abbrev pub IsGoneBlock : Channel T → Reply T A → Type 0
-  IsGoneBlock c (Got m) = IsFront c m
-  IsGoneBlock c (Gone closed filled) =
+  abbrev pub IsWithdrawReplyOfBlock : Channel T → Reply T A → Type 0
+  IsWithdrawReplyOfBlock c (Got m) = IsFront c m
+  IsWithdrawReplyOfBlock c (Gone closed filled) =
       (c.line ≡ []) × (closed ≡ is_closed c.senders c.receivers) × (filled ≡ None)
-  IsGoneBlock c _ = ⊥
+  IsWithdrawReplyOfBlock c _ = ⊥
 
   -- one of another kind takes no message, and passes its wake on, if it was woken
-  abbrev pub IsGoneOther : Channel T → ℕ → Reply T A → Type 0
-  IsGoneOther c t (Gone closed filled) =
+  abbrev pub IsWithdrawReplyOfOther : Channel T → ℕ → Reply T A → Type 0
+  IsWithdrawReplyOfOther c t (Gone closed filled) =
       (closed ≡ is_closed c.senders c.receivers) × (filled ≡ leave_fills t c.queue c.entries)
-  IsGoneOther c t _ = ⊥
+  IsWithdrawReplyOfOther c t _ = ⊥
 
   -- by its mark if it is filled, and else by its kind
-  abbrev pub IsGoneMark : Channel T → ℕ → Kind → Mark T → Reply T A → Type 0
-  IsGoneMark c t kind (Filled held) reply = IsCollected held reply
-  IsGoneMark c t Block mark reply = IsGoneBlock c reply
-  IsGoneMark c t kind mark reply = IsGoneOther c t reply
+  abbrev pub IsWithdrawReplyByMark : Channel T → ℕ → Kind → Mark T → Reply T A → Type 0
+  IsWithdrawReplyByMark c t kind (Filled held) reply = IsCollected held reply
+  IsWithdrawReplyByMark c t Block mark reply = IsWithdrawReplyOfBlock c reply
+  IsWithdrawReplyByMark c t kind mark reply = IsWithdrawReplyOfOther c t reply
 
   -- a receiver that leaves, if this is its entry
-  abbrev pub IsGone : Channel T → ℕ → Option (LogEntry T) → Reply T A → Type 0
-  IsGone c t None NoTicket = Unit {0}
-  IsGone c t None _ = ⊥
-  IsGone c t (Some e) reply = IsGoneMark c t e.kind e.mark reply
+  abbrev pub IsWithdrawReply : Channel T → ℕ → Option (LogEntry T) → Reply T A → Type 0
+  IsWithdrawReply c t None NoTicket = Unit {0}
+  IsWithdrawReply c t None _ = ⊥
+  IsWithdrawReply c t (Some e) reply = IsWithdrawReplyByMark c t e.kind e.mark reply

@@ -1,7 +1,7 @@
 -- What holds of a run at each moment: of each log that it began with.
 use Rattle.std.specs.Prelude.{◌≡◌, ◌≤◌, ◌++◌, length}
 use Rattle.flume_model.specs.Log.{Log, Opening}
-use Rattle.flume_model.specs.Line.{line, boundary}
+use Rattle.flume_model.specs.Line.{line, queue_len}
 use Rattle.flume_model.specs.Parked.{entries}
 use Rattle.flume_model.specs.Replies.{IsRun}
 use Rattle.flume_model.specs.Laws.{InOrder}
@@ -16,7 +16,7 @@ module _ {T A : Type 0} where
   pub record Holds (opening : Opening) (log : Log T A) : Type 0 where
     pub replies_lawful : IsRun opening log
     pub in_order : InOrder (entries opening log) log
-    pub boundary_within : boundary opening log ≤ length (line log)
+    pub queue_len_within : queue_len opening log ≤ length (line log)
     pub woken_cover : Covered opening log
     pub queue_bounded : Bounded opening log
 

@@ -3,7 +3,7 @@ use Rattle.std.specs.Prelude.{◌≡◌, ℕ, Bool, true, false, List, ◌∷◌
 use Rattle.std.specs.List.{list_any}
 use Rattle.flume_model.specs.Log.{Log, Opening, Offer, is_ticket}
 use Rattle.flume_model.specs.Counts.{senders, receivers}
-use Rattle.flume_model.specs.Line.{line, capacity, boundary, queue, blocked, messages, next_ticket}
+use Rattle.flume_model.specs.Line.{line, capacity, queue_len, queue, blocked, messages, next_ticket}
 use Rattle.flume_model.specs.Line.{is_live}
 use Rattle.flume_model.specs.Limits.{HasRoom, IsAtCapacity, IsOpen}
 use Rattle.flume_model.specs.Entries.{some_wait}
@@ -13,12 +13,12 @@ use Rattle.flume_model.specs.Parked.{LogEntry, entries}
 pub record Channel (T : Type 0) : Type 0 where
   pub capacity : Option ℕ
   pub line : List T
-  pub boundary : ℕ
+  pub queue_len : ℕ
   pub queue : List T
   pub blocked : List (Offer T)
   pub entries : List (LogEntry T)
   pub is_live : ℕ → Bool
-  pub next : ℕ
+  pub next_ticket : ℕ
   pub senders : ℕ
   pub receivers : ℕ
 
@@ -27,13 +27,13 @@ module _ {T : Type 0} where
   abbrev pub TakesIn : Channel T → Type 0
   TakesIn c =
       IsOpen c.senders c.receivers
-      × (some_wait c.entries ≡ false → HasRoom c.capacity c.boundary)
+      × (some_wait c.entries ≡ false → HasRoom c.capacity c.queue_len)
 
   -- an open channel takes no send in at once: no receiver waits, and the queue has no room
   abbrev pub TakesNoneIn : Channel T → Type 0
   TakesNoneIn c =
       IsOpen c.senders c.receivers × (some_wait c.entries ≡ false)
-      × IsAtCapacity c.capacity c.boundary
+      × IsAtCapacity c.capacity c.queue_len
 
   -- the line begins with this message
   abbrev pub IsFront : Channel T → T → Type 0
@@ -63,12 +63,12 @@ module _ {T A : Type 0} where
   channel opening log = record {
     capacity = capacity opening log;
     line = messages (line log);
-    boundary = boundary opening log;
+    queue_len = queue_len opening log;
     queue = queue opening log;
     blocked = blocked opening log;
     entries = entries opening log;
     is_live = is_live log;
-    next = next_ticket opening log;
+    next_ticket = next_ticket opening log;
     senders = senders log;
     receivers = receivers log;
   }

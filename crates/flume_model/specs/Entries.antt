@@ -54,18 +54,20 @@ module _ {T N : Type 0} where
   abbrev pub marked : (N → N) → Mark T → Entry T N → Entry T N
   marked notify mark e = record e { mark = mark; notice = notify e.notice }
 
-  -- a wake round at a waiting entry, with those behind it: `as_are`, or `goes_on` if it goes on
-  abbrev pub round_at : (N → N) → Kind → T → Entry T N → List (Entry T N) → List (Entry T N)
+  -- a wake round from a waiting entry on, which ends at it or goes on behind a stream: those behind
+  -- it are `others`, or `woken` if it goes on
+  abbrev pub round_from : (N → N) → Kind → T → Entry T N → List (Entry T N) → List (Entry T N)
       → List (Entry T N)
-  round_at notify Stream front e as_are goes_on = marked notify Woken e ∷ goes_on
-  round_at notify Block front e as_are goes_on = marked notify (Filled front) e ∷ as_are
-  round_at notify kind front e as_are goes_on = marked notify Woken e ∷ as_are
+  round_from notify Stream front e others woken = marked notify Woken e ∷ woken
+  round_from notify Block front e others woken = marked notify (Filled front) e ∷ others
+  round_from notify kind front e others woken = marked notify Woken e ∷ others
 
   -- a wake round: it ends at the first waiting entry that is no stream, which it fills or wakes
   abbrev pub round : (N → N) → T → List (Entry T N) → List (Entry T N)
   round notify front [] = []
   round notify front (e ∷ entries) =
-      if is_waiting e.mark then round_at notify e.kind front e entries (round notify front entries)
+      if is_waiting e.mark
+      then round_from notify e.kind front e entries (round notify front entries)
       else e ∷ round notify front entries
 
   -- the ticket that a round fills, if it fills one
@@ -87,7 +89,8 @@ module _ {T N : Type 0} where
 
   -- all that wait are woken
   abbrev pub all_woken : (N → N) → List (Entry T N) → List (Entry T N)
-  all_woken notify entries = map (λ e. if is_waiting e.mark then marked notify Woken e else e) entries
+  all_woken notify entries =
+      map (λ e. if is_waiting e.mark then marked notify Woken e else e) entries
 
   -- the first entry with a ticket
   abbrev pub entry_of : ℕ → List (Entry T N) → Option (Entry T N)

@@ -32,7 +32,7 @@ module _ {T A : Type 0} where
 
 module _ {T A N : Type 0} where
   -- the hand-out is of this message: it was shown, or the filled receiver got or holds it
-  abbrev pub IsOf : List (Entry T N) → Log T A → HandOut T → T → Type 0
-  IsOf entries log (Shown given) message = given ≡ message
-  IsOf entries log (FilledIn t) message =
+  abbrev pub IsHandOutOf : List (Entry T N) → Log T A → HandOut T → T → Type 0
+  IsHandOutOf entries log (Shown given) message = given ≡ message
+  IsHandOutOf entries log (FilledIn t) message =
       FillIs (is_over log) (shown log t) (held_by (entry_of t entries)) message

@@ -4,7 +4,7 @@ use Rattle.std.specs.List.{All, slice_get}
 use Rattle.flume_model.specs.declared.entry.Entry.{Entry}
 use Rattle.flume_model.specs.Log.{Log, Offer, HandOut}
 use Rattle.flume_model.specs.Offers.{kept, handed_out}
-use Rattle.flume_model.specs.Fills.{IsOf}
+use Rattle.flume_model.specs.Fills.{IsHandOutOf}
 
 -- the ticket, if there is one, is below this
 abbrev pub IsBelow : ℕ → Option ℕ → Type 0
@@ -22,7 +22,7 @@ module _ {T A N : Type 0} where
   InOrder entries log =
       (j : ℕ) (given : HandOut T) → slice_get (handed_out log) j ≡ Some given
       → (offer : Offer T) × (slice_get (kept log) j ≡ Some offer)
-      × IsOf entries log given offer.message
+      × IsHandOutOf entries log given offer.message
 
 module _ {T : Type 0} where
   -- the ticket of each of these offers is below those of the later ones, and below the bound

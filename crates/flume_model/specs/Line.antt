@@ -27,14 +27,14 @@ module _ {T : Type 0} where
   capacity_after capacity _ = capacity
 
   -- how many offers are queued after a change, if `n` were; capacity and length are those after it
-  abbrev pub boundary_after : Option ℕ → ℕ → ℕ → Change T → ℕ
-  boundary_after capacity line_length n (Queues message filled) = n + 1 - fill_count filled
-  boundary_after capacity line_length n (Takes message receiver) =
+  abbrev pub queue_len_after : Option ℕ → ℕ → ℕ → Change T → ℕ
+  queue_len_after capacity line_length n (Queues message filled) = n + 1 - fill_count filled
+  queue_len_after capacity line_length n (Takes message receiver) =
       max (n - 1) (capped capacity line_length)
-  boundary_after capacity line_length n (Drains messages) = capped capacity line_length
-  boundary_after capacity line_length n (Leaves ticket filled) = n - fill_count filled
-  boundary_after capacity line_length n (Resizes new) = max n (capped capacity line_length)
-  boundary_after capacity line_length n _ = n
+  queue_len_after capacity line_length n (Drains messages) = capped capacity line_length
+  queue_len_after capacity line_length n (Leaves ticket filled) = n - fill_count filled
+  queue_len_after capacity line_length n (Resizes new) = max n (capped capacity line_length)
+  queue_len_after capacity line_length n _ = n
 
   -- how many tickets a change issues
   abbrev pub tickets_issued : Change T → ℕ
@@ -69,20 +69,20 @@ module _ {T A : Type 0} where
   greatest opening (p ∷ past) = greater (greatest opening past) (capacity opening (p ∷ past))
 
   -- how many offers of the line's front are queued
-  abbrev pub boundary : Opening → Log T A → ℕ
-  boundary opening [] = 0
-  boundary opening (p ∷ past) =
+  abbrev pub queue_len : Opening → Log T A → ℕ
+  queue_len opening [] = 0
+  queue_len opening (p ∷ past) =
       if is_over (p ∷ past) then 0
-      else boundary_after (capacity opening (p ∷ past)) (length (line (p ∷ past)))
-      (boundary opening past) (change past p.0 p.1)
+      else queue_len_after (capacity opening (p ∷ past)) (length (line (p ∷ past)))
+      (queue_len opening past) (change past p.0 p.1)
 
   -- the queued messages, the front first
   abbrev pub queue : Opening → Log T A → List T
-  queue opening log = messages (take (boundary opening log) (line log))
+  queue opening log = messages (take (queue_len opening log) (line log))
 
   -- the offers of the line that aren't queued: their senders are blocked
   abbrev pub blocked : Opening → Log T A → List (Offer T)
-  blocked opening log = drop (boundary opening log) (line log)
+  blocked opening log = drop (queue_len opening log) (line log)
 
   -- the next ticket
   abbrev pub next_ticket : Opening → Log T A → ℕ

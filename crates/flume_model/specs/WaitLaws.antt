@@ -7,7 +7,7 @@ use Rattle.flume_model.specs.declared.step.Kind.TheVariants.{Block}
 use Rattle.flume_model.specs.declared.entry.Entry.{Entry}
 use Rattle.flume_model.specs.Log.{Log, Opening, was_filled}
 use Rattle.flume_model.specs.Counts.{senders, receivers}
-use Rattle.flume_model.specs.Line.{line, capacity, greatest, boundary, blocked, next_ticket}
+use Rattle.flume_model.specs.Line.{line, capacity, greatest, queue_len, blocked, next_ticket}
 use Rattle.flume_model.specs.Line.{is_live}
 use Rattle.flume_model.specs.Limits.{IsAtCapacity, IsOpen, IsClosed}
 use Rattle.flume_model.specs.Entries.{is_woken, is_filled, some_wait, waiting_count, woken_count}
@@ -26,10 +26,10 @@ is_block _ = false
 
 module _ {T N : Type 0} where
   -- the tickets of these entries are below a bound, and each is another
-  abbrev pub Apart : ℕ → List (Entry T N) → Type 0
-  Apart bound [] = Unit {0}
-  Apart bound (e ∷ entries) =
-      (e.ticket < bound) × (entry_of e.ticket entries ≡ None) × Apart bound entries
+  abbrev pub DistinctTickets : ℕ → List (Entry T N) → Type 0
+  DistinctTickets bound [] = Unit {0}
+  DistinctTickets bound (e ∷ entries) =
+      (e.ticket < bound) × (entry_of e.ticket entries ≡ None) × DistinctTickets bound entries
 
   -- some receiver that blocks is woken
   abbrev pub block_woken : List (Entry T N) → Bool
@@ -40,22 +40,22 @@ module _ {T A : Type 0} where
   abbrev pub Covered : Opening → Log T A → Type 0
   Covered opening log =
       some_wait (entries opening log) ≡ true
-      → boundary opening log ≤ woken_count (entries opening log)
+      → queue_len opening log ≤ woken_count (entries opening log)
 
   -- queued messages and waiting receivers are together within the greatest capacity or the peak
   abbrev pub Bounded : Opening → Log T A → Type 0
   Bounded opening log =
       IsWithinCapacity (greatest opening log) (peak opening log)
-      (boundary opening log + waiting_count (entries opening log))
+      (queue_len opening log + waiting_count (entries opening log))
 
   -- a receiver waits, and the bounds of `Covered` and `Bounded` are both met
   pub record MeetsBounds (opening : Opening) (log : Log T A) : Type 0 where
     pub waits : some_wait (entries opening log) ≡ true
-    pub woken : boundary opening log ≡ woken_count (entries opening log)
+    pub woken : queue_len opening log ≡ woken_count (entries opening log)
     pub limit : ℕ
     pub bounded : greatest opening log ≡ Some limit
     pub queued :
-        boundary opening log + waiting_count (entries opening log) ≡ max limit (peak opening log)
+        queue_len opening log + waiting_count (entries opening log) ≡ max limit (peak opening log)
 
   -- nobody waits for a message or for room that is there
   pub record NobodyStuck (opening : Opening) (log : Log T A) : Type 0 where
@@ -63,8 +63,8 @@ module _ {T A : Type 0} where
         some_wait (entries opening log) ≡ true
         → (line log ≡ []) × IsOpen (senders log) (receivers log)
     pub blocked_senders :
-        boundary opening log < length (line log)
-        → IsAtCapacity (capacity opening log) (boundary opening log)
+        queue_len opening log < length (line log)
+        → IsAtCapacity (capacity opening log) (queue_len opening log)
         × (some_wait (entries opening log) ≡ false)
 
   -- a receiver that blocks is woken only in a closed channel, and only if no sender is blocked
@@ -74,8 +74,8 @@ module _ {T A : Type 0} where
       → IsClosed (senders log) (receivers log) × (blocked opening log ≡ [])
 
   -- no ticket is live of a send and of a receiver
-  abbrev pub SidesApart : Opening → Log T A → Type 0
-  SidesApart opening log =
+  abbrev pub TicketsDisjoint : Opening → Log T A → Type 0
+  TicketsDisjoint opening log =
       (t : ℕ) → is_live log t ≡ true
       → (t < next_ticket opening log) × (entry_of t (entries opening log) ≡ None)
 

@@ -7,7 +7,7 @@ ghost use Rattle.flume_model.specs.declared.step.Step.{Step};
 ghost use Rattle.flume_model.specs.declared.step.Reply.{Reply};
 ghost use Rattle.flume_model.specs.Channel.{has_ticket};
 ghost use Rattle.flume_model.specs.Limits.{IsAtCapacity};
-ghost use Rattle.flume_model.specs.Line.{line, capacity, boundary, blocked, next_ticket, is_live};
+ghost use Rattle.flume_model.specs.Line.{line, capacity, queue_len, blocked, next_ticket, is_live};
 ghost use Rattle.flume_model.specs.Offers.{offers, kept, hand_outs};
 ghost use Rattle.flume_model.specs.Laws.{InOrder, Rising};
 ghost use Rattle.flume_model.specs.Beginnings.{HoldsThroughout};
@@ -57,8 +57,8 @@ pub fn accepted_tickets_are_below_blocked_ones<T, A: Allocator>()
 /// In each run, a sender is blocked only if the queue is at or past the capacity.
 pub fn senders_block_only_at_capacity<T, A: Allocator>()
     ensures law { (opening : Opening) (log : Log T A) → IsRun opening log
-        → boundary opening log < length (line log)
-        → IsAtCapacity (capacity opening log) (boundary opening log) }
+        → queue_len opening log < length (line log)
+        → IsAtCapacity (capacity opening log) (queue_len opening log) }
 {}
 
 /// Steps are equal if their cases are the same and what they hold is equal.

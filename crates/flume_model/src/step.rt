@@ -83,7 +83,7 @@ pub enum Reply<T, A: Allocator = Global> {
     /// There are as many such ends as can be counted.
     CountFull,
     Number(usize),
-    Truth(bool),
+    Flag(bool),
     Capacity(Option<usize>),
     /// The channel has no capacity to set.
     Unbounded,

@@ -6,13 +6,13 @@ use Rattle.flume_model.specs.declared.step.Step.TheVariants.{DropReceiver}
 use Rattle.flume_model.specs.declared.step.Reply.TheVariants.{Sent, Got, Parked, Gone, Done}
 use Rattle.flume_model.specs.Log.{FilledIn, opens}
 use Rattle.flume_model.specs.Parked.{entries}
-use Rattle.flume_model.specs.Fills.{IsOf}
+use Rattle.flume_model.specs.Fills.{IsHandOutOf}
 use Rattle.flume_model_examples.specs.Rows.{Row, as_log, Runs}
 
 -- after a row of an unbounded channel the fill of this receiver is of the message
 abbrev pub IsFillOf : Row → ℕ → ℕ → Type 0
 IsFillOf row ticket message =
-    IsOf (entries (opens None 1) (as_log [] row)) (as_log [] row) (FilledIn ticket) message
+    IsHandOutOf (entries (opens None 1) (as_log [] row)) (as_log [] row) (FilledIn ticket) message
 
 -- the row is a run, and the fill of this receiver is of this message, and of no other
 abbrev pub IsFillOfOnly : Row → ℕ → ℕ → Type 0

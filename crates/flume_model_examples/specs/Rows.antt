@@ -34,8 +34,8 @@ but_last (p ∷ []) = []
 but_last (p ∷ q ∷ row) = p ∷ but_last (q ∷ row)
 
 -- a row whose last reply alone misses a run of a new channel of this capacity
-abbrev pub IsNearMiss : Option ℕ → Row → Type 0
-IsNearMiss capacity row = Runs capacity (but_last row) × ¬ Runs capacity row
+abbrev pub WrongAtEnd : Option ℕ → Row → Type 0
+WrongAtEnd capacity row = Runs capacity (but_last row) × ¬ Runs capacity row
 
 -- what a drain hands out
 abbrev pub Numbers : Type 0

@@ -11,9 +11,9 @@ ghost use Rattle.flume_model.specs.declared.step.Reply.TheVariants.{Sent, Full, 
 ghost use Rattle.flume_model.specs.declared.step.Reply.TheVariants.{Pending, Accepted, Waiting};
 ghost use Rattle.flume_model.specs.declared.step.Reply.TheVariants.{Returned, NoTicket, Got, Empty};
 ghost use Rattle.flume_model.specs.declared.step.Reply.TheVariants.{Ended, Done, NoEnd, CountFull};
-ghost use Rattle.flume_model.specs.declared.step.Reply.TheVariants.{Number, Truth};
+ghost use Rattle.flume_model.specs.declared.step.Reply.TheVariants.{Number, Flag};
 ghost use Rattle.flume_model.specs.declared.step.Reply.TheVariants.{Capacity as Bound};
-ghost use Rattle.flume_model_examples.specs.Rows.{Runs, IsNearMiss};
+ghost use Rattle.flume_model_examples.specs.Rows.{Runs, WrongAtEnd};
 
 /// Worked rows of blocked sends, of ends and of queries are runs.
 pub fn blocked_rows_are_runs()
@@ -22,7 +22,7 @@ pub fn blocked_rows_are_runs()
         ∷ []) }
     ensures blocked_comes_back { Runs (Some 1) ((Send 1, Sent None) ∷ (Send 2, Pending 1)
         ∷ (DropReceiver, Done) ∷ (PollSend 1, Returned 2 true) ∷ (Len, Number 1)
-        ∷ (TrySend 3, Closed 3) ∷ (IsDisconnected, Truth true) ∷ []) }
+        ∷ (TrySend 3, Closed 3) ∷ (IsDisconnected, Flag true) ∷ []) }
     ensures withdrawn_from_middle { Runs (Some 1) ((Send 1, Sent None) ∷ (Send 2, Pending 1)
         ∷ (Send 3, Pending 2) ∷ (Send 4, Pending 3) ∷ (WithdrawSend 2, Returned 3 false)
         ∷ (TryRecv, Got 1) ∷ (TryRecv, Got 2) ∷ (TryRecv, Got 4) ∷ (TryRecv, Empty)
@@ -32,70 +32,70 @@ pub fn blocked_rows_are_runs()
     ensures blocked_outlived { Runs (Some 0) ((Send 7, Pending 1) ∷ (DropSender, Done)
         ∷ (TryRecv, Got 7) ∷ (PollSend 1, Accepted) ∷ (TryRecv, Ended) ∷ []) }
     ensures senders_still_come { Runs None ((DropReceiver, Done) ∷ (CloneSender, Done)
-        ∷ (SenderCount, Number 2) ∷ (IsDisconnected, Truth true) ∷ (CloneReceiver, NoEnd) ∷ []) }
+        ∷ (SenderCount, Number 2) ∷ (IsDisconnected, Flag true) ∷ (CloneReceiver, NoEnd) ∷ []) }
     ensures tickets_all_spent { Runs (Some 1) ((Send 1, Sent None) ∷ (Send 2, Pending 1)
         ∷ (DropReceiver, Done) ∷ (DropSender, Done) ∷ (PollSend 1, NoTicket) ∷ []) }
     ensures asked_how_it_stands { Runs (Some 2) ((TrySend 1, Sent None) ∷ (TrySend 2, Sent None)
-        ∷ (IsFull, Truth true) ∷ (TryRecv, Got 1) ∷ (IsFull, Truth false) ∷ (IsEmpty, Truth false)
-        ∷ (Capacity, Bound (Some 2)) ∷ (DropSender, Done) ∷ (IsDisconnected, Truth true) ∷ []) }
+        ∷ (IsFull, Flag true) ∷ (TryRecv, Got 1) ∷ (IsFull, Flag false) ∷ (IsEmpty, Flag false)
+        ∷ (Capacity, Bound (Some 2)) ∷ (DropSender, Done) ∷ (IsDisconnected, Flag true) ∷ []) }
 {}
 
 /// Logs of blocked sends, of ends and of queries are runs but for their last reply.
 pub fn blocked_near_misses_are_no_runs()
-    ensures returned_after_accepted { IsNearMiss (Some 1) ((Send 1, Sent None) ∷ (Send 2, Pending 1)
+    ensures returned_after_accepted { WrongAtEnd (Some 1) ((Send 1, Sent None) ∷ (Send 2, Pending 1)
         ∷ (TryRecv, Got 1) ∷ (WithdrawSend 1, Returned 2 false) ∷ []) }
-    ensures accepted_while_blocked { IsNearMiss (Some 1) ((Send 1, Sent None) ∷ (Send 2, Pending 1)
+    ensures accepted_while_blocked { WrongAtEnd (Some 1) ((Send 1, Sent None) ∷ (Send 2, Pending 1)
         ∷ (PollSend 1, Accepted) ∷ []) }
-    ensures accepted_twice { IsNearMiss (Some 0) ((Send 1, Pending 1) ∷ (TryRecv, Got 1)
+    ensures accepted_twice { WrongAtEnd (Some 0) ((Send 1, Pending 1) ∷ (TryRecv, Got 1)
         ∷ (PollSend 1, Accepted) ∷ (PollSend 1, Accepted) ∷ []) }
-    ensures waiting_while_closed { IsNearMiss (Some 1) ((Send 1, Sent None) ∷ (Send 2, Pending 1)
+    ensures waiting_while_closed { WrongAtEnd (Some 1) ((Send 1, Sent None) ∷ (Send 2, Pending 1)
         ∷ (DropReceiver, Done) ∷ (PollSend 1, Waiting) ∷ []) }
-    ensures returned_while_open { IsNearMiss (Some 0) ((Send 1, Pending 1)
+    ensures returned_while_open { WrongAtEnd (Some 0) ((Send 1, Pending 1)
         ∷ (PollSend 1, Returned 1 false) ∷ []) }
-    ensures another_withdrawn { IsNearMiss (Some 0) ((Send 1, Pending 1) ∷ (Send 2, Pending 2)
+    ensures another_withdrawn { WrongAtEnd (Some 0) ((Send 1, Pending 1) ∷ (Send 2, Pending 2)
         ∷ (WithdrawSend 1, Returned 2 false) ∷ []) }
-    ensures open_told_when_closed { IsNearMiss (Some 0) ((Send 1, Pending 1) ∷ (DropReceiver, Done)
+    ensures waiting_when_closed { WrongAtEnd (Some 0) ((Send 1, Pending 1) ∷ (DropReceiver, Done)
         ∷ (WithdrawSend 1, Returned 1 false) ∷ []) }
-    ensures ticket_issued_twice { IsNearMiss (Some 0) ((Send 1, Pending 1) ∷ (Send 2, Pending 1)
+    ensures ticket_issued_twice { WrongAtEnd (Some 0) ((Send 1, Pending 1) ∷ (Send 2, Pending 1)
         ∷ []) }
-    ensures ticket_issued_again { IsNearMiss (Some 0) ((Send 1, Pending 1)
+    ensures ticket_issued_again { WrongAtEnd (Some 0) ((Send 1, Pending 1)
         ∷ (WithdrawSend 1, Returned 1 false) ∷ (Send 2, Pending 1) ∷ []) }
-    ensures no_ticket_while_live { IsNearMiss (Some 0) ((Send 1, Pending 1) ∷ (PollSend 1, NoTicket)
+    ensures no_ticket_while_live { WrongAtEnd (Some 0) ((Send 1, Pending 1) ∷ (PollSend 1, NoTicket)
         ∷ []) }
-    ensures waiting_without_ticket { IsNearMiss (Some 0) ((Send 1, Pending 1)
+    ensures waiting_without_ticket { WrongAtEnd (Some 0) ((Send 1, Pending 1)
         ∷ (PollSend 2, Waiting) ∷ []) }
-    ensures ticket_outlives_both { IsNearMiss (Some 0) ((Send 1, Pending 1) ∷ (DropReceiver, Done)
+    ensures ticket_outlives_both { WrongAtEnd (Some 0) ((Send 1, Pending 1) ∷ (DropReceiver, Done)
         ∷ (DropSender, Done) ∷ (PollSend 1, Returned 1 true) ∷ []) }
-    ensures blocked_below_capacity { IsNearMiss (Some 1) ((Send 1, Sent None) ∷ (Send 2, Pending 1)
+    ensures blocked_below_capacity { WrongAtEnd (Some 1) ((Send 1, Sent None) ∷ (Send 2, Pending 1)
         ∷ (TryRecv, Got 1) ∷ (PollSend 1, Waiting) ∷ []) }
-    ensures none_moved_in { IsNearMiss (Some 1) ((Send 1, Sent None) ∷ (Send 2, Pending 1)
+    ensures none_moved_in { WrongAtEnd (Some 1) ((Send 1, Sent None) ∷ (Send 2, Pending 1)
         ∷ (TryRecv, Got 1) ∷ (Len, Number 0) ∷ []) }
-    ensures two_moved_in { IsNearMiss (Some 1) ((Send 1, Sent None) ∷ (Send 2, Pending 1)
+    ensures two_moved_in { WrongAtEnd (Some 1) ((Send 1, Sent None) ∷ (Send 2, Pending 1)
         ∷ (Send 3, Pending 2) ∷ (TryRecv, Got 1) ∷ (PollSend 2, Accepted) ∷ []) }
-    ensures later_moved_in { IsNearMiss (Some 0) ((Send 1, Pending 1) ∷ (Send 2, Pending 2)
+    ensures later_moved_in { WrongAtEnd (Some 0) ((Send 1, Pending 1) ∷ (Send 2, Pending 2)
         ∷ (TryRecv, Got 2) ∷ []) }
-    ensures withdrawn_handed_out { IsNearMiss (Some 0) ((Send 1, Pending 1)
+    ensures withdrawn_handed_out { WrongAtEnd (Some 0) ((Send 1, Pending 1)
         ∷ (WithdrawSend 1, Returned 1 false) ∷ (TryRecv, Got 1) ∷ []) }
-    ensures sent_past_capacity { IsNearMiss (Some 1) ((Send 1, Sent None) ∷ (Send 2, Sent None)
+    ensures sent_past_capacity { WrongAtEnd (Some 1) ((Send 1, Sent None) ∷ (Send 2, Sent None)
         ∷ []) }
-    ensures pending_below_capacity { IsNearMiss (Some 1) ((Send 1, Pending 1) ∷ []) }
-    ensures pending_while_closed { IsNearMiss (Some 1) ((DropReceiver, Done) ∷ (Send 1, Pending 1)
+    ensures pending_below_capacity { WrongAtEnd (Some 1) ((Send 1, Pending 1) ∷ []) }
+    ensures pending_while_closed { WrongAtEnd (Some 1) ((DropReceiver, Done) ∷ (Send 1, Pending 1)
         ∷ []) }
-    ensures spent_too_early { IsNearMiss (Some 0) ((Send 1, Spent (Some 1)) ∷ []) }
-    ensures sender_after_last { IsNearMiss (Some 1) ((DropSender, Done) ∷ (CloneSender, Done)
+    ensures spent_too_early { WrongAtEnd (Some 0) ((Send 1, Spent (Some 1)) ∷ []) }
+    ensures sender_after_last { WrongAtEnd (Some 1) ((DropSender, Done) ∷ (CloneSender, Done)
         ∷ []) }
-    ensures receiver_after_last { IsNearMiss (Some 1) ((DropReceiver, Done) ∷ (CloneReceiver, Done)
+    ensures receiver_after_last { WrongAtEnd (Some 1) ((DropReceiver, Done) ∷ (CloneReceiver, Done)
         ∷ []) }
-    ensures count_full_at_one { IsNearMiss (Some 1) ((CloneSender, CountFull) ∷ []) }
-    ensures senders_one_off { IsNearMiss (Some 1) ((CloneSender, Done) ∷ (SenderCount, Number 1)
+    ensures count_full_at_one { WrongAtEnd (Some 1) ((CloneSender, CountFull) ∷ []) }
+    ensures senders_one_off { WrongAtEnd (Some 1) ((CloneSender, Done) ∷ (SenderCount, Number 1)
         ∷ []) }
-    ensures receivers_one_off { IsNearMiss (Some 1) ((DropReceiver, Done)
+    ensures receivers_one_off { WrongAtEnd (Some 1) ((DropReceiver, Done)
         ∷ (ReceiverCount, Number 1) ∷ []) }
-    ensures full_denied { IsNearMiss (Some 1) ((TrySend 1, Sent None) ∷ (IsFull, Truth false)
+    ensures full_denied { WrongAtEnd (Some 1) ((TrySend 1, Sent None) ∷ (IsFull, Flag false)
         ∷ []) }
-    ensures empty_with_message { IsNearMiss (Some 1) ((TrySend 1, Sent None) ∷ (IsEmpty, Truth true)
+    ensures empty_with_message { WrongAtEnd (Some 1) ((TrySend 1, Sent None) ∷ (IsEmpty, Flag true)
         ∷ []) }
-    ensures disconnected_while_open { IsNearMiss (Some 1) ((CloneSender, Done) ∷ (DropSender, Done)
-        ∷ (IsDisconnected, Truth true) ∷ []) }
-    ensures capacity_one_off { IsNearMiss (Some 1) ((Capacity, Bound (Some 2)) ∷ []) }
+    ensures disconnected_while_open { WrongAtEnd (Some 1) ((CloneSender, Done) ∷ (DropSender, Done)
+        ∷ (IsDisconnected, Flag true) ∷ []) }
+    ensures capacity_one_off { WrongAtEnd (Some 1) ((Capacity, Bound (Some 2)) ∷ []) }
 {}

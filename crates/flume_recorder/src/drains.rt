@@ -45,7 +45,7 @@ impl<T: Drop, C: Allocator, A: Allocator> Iterator for DrainedMessages<'_, T, C,
     }
 }
 
-fn list_of<T: Drop, C: Allocator, A: Allocator>(
+fn push_all<T: Drop, C: Allocator, A: Allocator>(
     messages: Drain<'_, T, C>,
     mut list: Vec<T, A>,
 ) -> Vec<T, A>
@@ -97,7 +97,7 @@ impl<T: Copy + Drop, A: Allocator + Copy> Recorder<T, A> {
             self.mark_incomplete();
             return DrainedMessages::Own(messages);
         };
-        let list = list_of(messages, list);
+        let list = push_all(messages, list);
         self.record_messages(began, list.as_slice());
         DrainedMessages::List(VecDeque::from_vec(list))
     }

@@ -25,11 +25,11 @@ pub trait End {
 
     fn is_empty(&self) -> bool
         ensures made { HasReplied {T = Self.Message} {A = Self.Memory} Step.IsEmpty
-            (Reply.Truth result) };
+            (Reply.Flag result) };
 
     fn is_full(&self) -> bool
         ensures made { HasReplied {T = Self.Message} {A = Self.Memory} Step.IsFull
-            (Reply.Truth result) };
+            (Reply.Flag result) };
 
     fn capacity(&self) -> Option<usize>
         ensures made { HasReplied {T = Self.Message} {A = Self.Memory} Step.Capacity
@@ -45,7 +45,7 @@ pub trait End {
 
     fn is_disconnected(&self) -> bool
         ensures made { HasReplied {T = Self.Message} {A = Self.Memory} Step.IsDisconnected
-            (Reply.Truth result) };
+            (Reply.Flag result) };
 
     fn set_capacity(&self, capacity: usize) -> Result<(), CapacityError>
         ensures made { HasMade {T = Self.Message} {A = Self.Memory} (Step.SetCapacity capacity)

@@ -34,13 +34,13 @@ impl<T: Copy + Drop, A: Allocator + Copy> Recorder<T, A> {
     /// assert!(rt; recorder.is_empty(&rx));
     /// ```
     pub fn is_empty<E: End>(&mut self, end: &E) -> bool
-        ensures recorded { Records self.old self.new Call.IsEmpty (Answer.Truth result) }
+        ensures recorded { Records self.old self.new Call.IsEmpty (Answer.Flag result) }
         ensures made { HasReplied {T = E.Message} {A = E.Memory} Step.IsEmpty
-            (Reply.Truth result) }
+            (Reply.Flag result) }
     {
         let began = self.begin();
         let result = end.is_empty();
-        self.record(began, Call::IsEmpty, Answer::Truth(result));
+        self.record(began, Call::IsEmpty, Answer::Flag(result));
         result
     }
 
@@ -49,13 +49,13 @@ impl<T: Copy + Drop, A: Allocator + Copy> Recorder<T, A> {
     /// assert!(rt; !recorder.is_full(&tx));
     /// ```
     pub fn is_full<E: End>(&mut self, end: &E) -> bool
-        ensures recorded { Records self.old self.new Call.IsFull (Answer.Truth result) }
+        ensures recorded { Records self.old self.new Call.IsFull (Answer.Flag result) }
         ensures made { HasReplied {T = E.Message} {A = E.Memory} Step.IsFull
-            (Reply.Truth result) }
+            (Reply.Flag result) }
     {
         let began = self.begin();
         let result = end.is_full();
-        self.record(began, Call::IsFull, Answer::Truth(result));
+        self.record(began, Call::IsFull, Answer::Flag(result));
         result
     }
 
@@ -109,13 +109,13 @@ impl<T: Copy + Drop, A: Allocator + Copy> Recorder<T, A> {
     /// assert!(rt; !recorder.is_disconnected(&tx));
     /// ```
     pub fn is_disconnected<E: End>(&mut self, end: &E) -> bool
-        ensures recorded { Records self.old self.new Call.IsDisconnected (Answer.Truth result) }
+        ensures recorded { Records self.old self.new Call.IsDisconnected (Answer.Flag result) }
         ensures made { HasReplied {T = E.Message} {A = E.Memory} Step.IsDisconnected
-            (Reply.Truth result) }
+            (Reply.Flag result) }
     {
         let began = self.begin();
         let result = end.is_disconnected();
-        self.record(began, Call::IsDisconnected, Answer::Truth(result));
+        self.record(began, Call::IsDisconnected, Answer::Flag(result));
         result
     }
 

@@ -9,7 +9,7 @@ use Rattle.flume_script.specs.ReplyTexts.{spaced}
 use Rattle.flume_concurrent.specs.declared.call.Answer.{Answer}
 use Rattle.flume_concurrent.specs.declared.call.Answer.TheVariants.{Sent, Full, Got, Empty, Disconnected, Timeout, NoMemory, Dropped}
 use Rattle.flume_concurrent.specs.declared.call.Answer.TheVariants.{Drained}
-use Rattle.flume_concurrent.specs.declared.call.Answer.TheVariants.{Done, NoEnd, CountFull, Number, Truth, Capacity, Unbounded}
+use Rattle.flume_concurrent.specs.declared.call.Answer.TheVariants.{Done, NoEnd, CountFull, Number, Flag, Capacity, Unbounded}
 use Rattle.flume_recording.specs.Texts.{FitsWord, IsAnswerText}
 use Rattle.flume_recording.proofs.CutLemmas.{Without, Lacks, without, has_byte, same_cuts}
 use Rattle.flume_recording.proofs.DigitLemmas.{decimal_without}
@@ -55,8 +55,8 @@ module _ {A : Type 0} where
   drained_answer numbers no_list Done h = third numbers (codes "done") h.0 (λ e. omega arith)
   drained_answer numbers no_list NoEnd h = third numbers (codes "noend") h.0 (λ e. omega arith)
   drained_answer numbers no_list CountFull h = third numbers (codes "countfull") h.0 (λ e. omega arith)
-  drained_answer numbers no_list (Truth true) h = third numbers (codes "true") h.0 (λ e. omega arith)
-  drained_answer numbers no_list (Truth false) h = third numbers (codes "false") h.0 (λ e. omega arith)
+  drained_answer numbers no_list (Flag true) h = third numbers (codes "true") h.0 (λ e. omega arith)
+  drained_answer numbers no_list (Flag false) h = third numbers (codes "false") h.0 (λ e. omega arith)
   drained_answer numbers no_list (Capacity None) h = third numbers (codes "none") h.0 (λ e. omega arith)
   drained_answer numbers no_list Unbounded h = third numbers (codes "unbounded") h.0 (λ e. omega arith)
 
@@ -80,7 +80,7 @@ module _ {A : Type 0} where
   cut_answer before later none no_list Done h = no_word before later (codes "done") (search rules) h.0
   cut_answer before later none no_list NoEnd h = no_word before later (codes "noend") (search rules) h.0
   cut_answer before later none no_list CountFull h = no_word before later (codes "countfull") (search rules) h.0
-  cut_answer before later none no_list (Truth true) h = no_word before later (codes "true") (search rules) h.0
-  cut_answer before later none no_list (Truth false) h = no_word before later (codes "false") (search rules) h.0
+  cut_answer before later none no_list (Flag true) h = no_word before later (codes "true") (search rules) h.0
+  cut_answer before later none no_list (Flag false) h = no_word before later (codes "false") (search rules) h.0
   cut_answer before later none no_list (Capacity None) h = no_word before later (codes "none") (search rules) h.0
   cut_answer before later none no_list Unbounded h = no_word before later (codes "unbounded") (search rules) h.0

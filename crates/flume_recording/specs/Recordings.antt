@@ -5,7 +5,7 @@ use Rattle.std.specs.Borrow.{Bor}
 use Rattle.std.specs.List.{AllZip}
 use Rattle.std.specs.Str.Lines.{lines}
 use Rattle.flume_concurrent.specs.declared.call.Call.{Call}
-use Rattle.flume_concurrent.specs.declared.call.Call.TheVariants.{Capacity as AskCapacity}
+use Rattle.flume_concurrent.specs.declared.call.Call.TheVariants.{Capacity as CapacityQuery}
 use Rattle.flume_concurrent.specs.declared.event.Event.{Event}
 use Rattle.flume_concurrent.specs.declared.event.Event.TheVariants.{Begins, Returns}
 use Rattle.flume_concurrent.specs.Explanations.{thread_of}
@@ -19,7 +19,7 @@ use Rattle.flume_recording.specs.Texts.{IsNumberOf}
 
 -- whether a call asks for the capacity
 abbrev pub asks_capacity : Call ℕ → Bool
-asks_capacity AskCapacity = true
+asks_capacity CapacityQuery = true
 asks_capacity _ = false
 
 -- no two threads have one name

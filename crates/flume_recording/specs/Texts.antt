@@ -12,14 +12,14 @@ use Rattle.flume_concurrent.specs.declared.call.Call.TheVariants.{RecvAsync, Try
 use Rattle.flume_concurrent.specs.declared.call.Call.TheVariants.{CloneSender, CloneReceiver}
 use Rattle.flume_concurrent.specs.declared.call.Call.TheVariants.{DropSender, DropReceiver}
 use Rattle.flume_concurrent.specs.declared.call.Call.TheVariants.{SetCapacity, Len, IsEmpty, IsFull}
-use Rattle.flume_concurrent.specs.declared.call.Call.TheVariants.{Capacity as AskCapacity}
+use Rattle.flume_concurrent.specs.declared.call.Call.TheVariants.{Capacity as CapacityQuery}
 use Rattle.flume_concurrent.specs.declared.call.Call.TheVariants.{SenderCount, ReceiverCount}
 use Rattle.flume_concurrent.specs.declared.call.Call.TheVariants.{IsDisconnected}
 use Rattle.flume_concurrent.specs.declared.call.Answer.{Answer}
 use Rattle.flume_concurrent.specs.declared.call.Answer.TheVariants.{Sent, Full, Got, Empty}
 use Rattle.flume_concurrent.specs.declared.call.Answer.TheVariants.{Disconnected, Timeout, NoMemory}
 use Rattle.flume_concurrent.specs.declared.call.Answer.TheVariants.{Dropped, Drained, Done, NoEnd}
-use Rattle.flume_concurrent.specs.declared.call.Answer.TheVariants.{CountFull, Number, Truth}
+use Rattle.flume_concurrent.specs.declared.call.Answer.TheVariants.{CountFull, Number, Flag}
 use Rattle.flume_concurrent.specs.declared.call.Answer.TheVariants.{Capacity, Unbounded}
 
 -- nothing, or a space and this
@@ -46,7 +46,7 @@ call_word (SetCapacity capacity) = codes "set_capacity"
 call_word Len = codes "len"
 call_word IsEmpty = codes "is_empty"
 call_word IsFull = codes "is_full"
-call_word AskCapacity = codes "capacity"
+call_word CapacityQuery = codes "capacity"
 call_word SenderCount = codes "sender_count"
 call_word ReceiverCount = codes "receiver_count"
 call_word IsDisconnected = codes "is_disconnected"
@@ -102,8 +102,8 @@ module _ {A : Type 0} where
   answer_text NoEnd = codes "noend"
   answer_text CountFull = codes "countfull"
   answer_text (Number number) = decimal number
-  answer_text (Truth true) = codes "true"
-  answer_text (Truth false) = codes "false"
+  answer_text (Flag true) = codes "true"
+  answer_text (Flag false) = codes "false"
   answer_text (Capacity None) = codes "none"
   answer_text (Capacity (Some capacity)) = decimal capacity
   answer_text Unbounded = codes "unbounded"

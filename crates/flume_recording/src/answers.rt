@@ -3,7 +3,7 @@ ghost use Rattle.std.specs.Prelude.{MatchOption, IfOk, IfSome, OnOk, ◌≡◌, 
 ghost use Rattle.std.specs.Prelude.{false, string_bytes, Bool, List, codes};
 ghost use Rattle.std.specs.List.{All};
 ghost use Rattle.std.specs.Fmt.{decimal};
-ghost use Rattle.flume_concurrent.specs.declared.call.Answer.TheVariants.{Capacity, Truth};
+ghost use Rattle.flume_concurrent.specs.declared.call.Answer.TheVariants.{Capacity, Flag};
 ghost use Rattle.flume_script.specs.ReplyTexts.{spaced};
 ghost use Rattle.flume_recording.specs.Texts.{answer_text, FitsWord, IsAnswerText, IsNoAnswer};
 ghost use Rattle.flume_recording.specs.Texts.{IsNumberOf};
@@ -20,7 +20,7 @@ fn plain_answer<A: Allocator>(word: &[u8]) -> Option<Answer<u64, A>>
     requires no_list { (list : List ℕ) → ¬ (word.now ≡ codes "drained" ++ spaced list) }
     requires no_number { (n : ℕ) → FitsWord n → ¬ (word.now ≡ decimal n) }
     ensures value { MatchOption result (IsNoAnswer A word.now) (IsAnswerText word.now) }
-    ensures no_number_of { (asks : Bool) → IfSome result (IsNumberOf asks) }
+    ensures number_of { (asks : Bool) → IfSome result (IsNumberOf asks) }
 {
     match word {
         _ if is_text(word, b"sent") => Some(Answer::Sent),
@@ -33,8 +33,8 @@ fn plain_answer<A: Allocator>(word: &[u8]) -> Option<Answer<u64, A>>
         _ if is_text(word, b"done") => Some(Answer::Done),
         _ if is_text(word, b"noend") => Some(Answer::NoEnd),
         _ if is_text(word, b"countfull") => Some(Answer::CountFull),
-        _ if is_text(word, b"true") => Some(Answer::Truth(true)),
-        _ if is_text(word, b"false") => Some(Answer::Truth(false)),
+        _ if is_text(word, b"true") => Some(Answer::Flag(true)),
+        _ if is_text(word, b"false") => Some(Answer::Flag(false)),
         _ if is_text(word, b"none") => Some(Answer::Capacity(None)),
         _ if is_text(word, b"unbounded") => Some(Answer::Unbounded),
         _ => None,
@@ -93,11 +93,11 @@ pub fn answer_of<A: Allocator + Copy>(
     }
 }
 
-fn write_truth<A: Allocator>(text: &mut String<A>, truth: bool) -> Result<(), NoMemory>
+fn write_flag<A: Allocator>(text: &mut String<A>, flag: bool) -> Result<(), NoMemory>
     ensures value { OnOk result (string_bytes text.new
-        ≡ string_bytes text.old ++ answer_text {A = A} (Truth truth)) }
+        ≡ string_bytes text.old ++ answer_text {A = A} (Flag flag)) }
 {
-    if truth {
+    if flag {
         text.push_str("true")?;
     } else {
         text.push_str("false")?;
@@ -157,7 +157,7 @@ pub fn write_answer<A: Allocator>(
         Answer::NoEnd => text.push_str("noend")?,
         Answer::CountFull => text.push_str("countfull")?,
         Answer::Number(number) => write!(text, "{number}")?,
-        Answer::Truth(truth) => write_truth(text, *truth)?,
+        Answer::Flag(flag) => write_flag(text, *flag)?,
         Answer::Capacity(capacity) => write_capacity(text, *capacity)?,
         Answer::Unbounded => text.push_str("unbounded")?,
     })

@@ -15,22 +15,22 @@ fn main(rt: HostRuntime) -> io::Result<()> {
     judge(&rt, "histories")
 }
 
-// A block is a line `= number`, the script, a line `-`, and the replies; before the first one are
-// comments. A block is read without the end of its last line.
+// A paragraph is a line `= number`, the script, a line `-`, and the replies; before the first are
+// comments. A paragraph is read without the end of its last line.
 fn replay(rt: &HostRuntime, name: &str) -> io::Result<()> {
     let path = format!(in rt.alloc(); "{name}.txt")?;
     let text = fs::read_to_string(rt, path.as_str())?;
     let (mut all, mut agree, mut runs) = (0u64, 0u64, 0u64);
     let mut first = None;
-    let blocks = text.as_str().strip_suffix("\n").unwrap_or_default();
-    for block in blocks.split("\n= ").skip(1) {
+    let paragraphs = text.as_str().strip_suffix("\n").unwrap_or_default();
+    for paragraph in paragraphs.split("\n= ").skip(1) {
         all = all.saturating_add(1);
-        if agrees(rt.alloc(), block)? {
+        if agrees(rt.alloc(), paragraph)? {
             agree = agree.saturating_add(1);
         } else {
-            first = first.or(block.lines().next());
+            first = first.or(paragraph.lines().next());
         }
-        if is_run(rt.alloc(), block)? {
+        if is_run(rt.alloc(), paragraph)? {
             runs = runs.saturating_add(1);
         }
     }
@@ -46,13 +46,13 @@ fn judge(rt: &HostRuntime, name: &str) -> io::Result<()> {
     let text = fs::read_to_string(rt, path.as_str())?;
     let (mut all, mut right) = (0u64, 0u64);
     let mut first = None;
-    let blocks = text.as_str().strip_suffix("\n").unwrap_or_default();
-    for block in blocks.split("\n= ").skip(1) {
+    let paragraphs = text.as_str().strip_suffix("\n").unwrap_or_default();
+    for paragraph in paragraphs.split("\n= ").skip(1) {
         all = all.saturating_add(1);
-        if is_judged(rt.alloc(), block)? {
+        if is_judged(rt.alloc(), paragraph)? {
             right = right.saturating_add(1);
         } else {
-            first = first.or(block.lines().next());
+            first = first.or(paragraph.lines().next());
         }
     }
     match first {
@@ -61,8 +61,8 @@ fn judge(rt: &HostRuntime, name: &str) -> io::Result<()> {
     }
 }
 
-fn is_judged(alloc: Global, block: &str) -> io::Result<bool> {
-    let Some((history, wanted)) = parts_of(block) else {
+fn is_judged(alloc: Global, paragraph: &str) -> io::Result<bool> {
+    let Some((history, wanted)) = parts_of(paragraph) else {
         return Ok(false);
     };
     let checked = check_script(alloc, history.as_bytes())?;
@@ -70,13 +70,13 @@ fn is_judged(alloc: Global, block: &str) -> io::Result<bool> {
     Ok(printed == Some(wanted.as_bytes()))
 }
 
-fn parts_of(block: &str) -> Option<(&str, &str)> {
-    let (_number, script_and_replies) = block.split_once("\n")?;
+fn parts_of(paragraph: &str) -> Option<(&str, &str)> {
+    let (_number, script_and_replies) = paragraph.split_once("\n")?;
     script_and_replies.split_once("\n-\n")
 }
 
-fn agrees(alloc: Global, block: &str) -> io::Result<bool> {
-    let Some((script, replies)) = parts_of(block) else {
+fn agrees(alloc: Global, paragraph: &str) -> io::Result<bool> {
+    let Some((script, replies)) = parts_of(paragraph) else {
         return Ok(false);
     };
     match run_script(alloc, script.as_bytes()) {
@@ -88,8 +88,8 @@ fn agrees(alloc: Global, block: &str) -> io::Result<bool> {
     }
 }
 
-fn is_run(alloc: Global, block: &str) -> io::Result<bool> {
-    let Some((script, replies)) = parts_of(block) else {
+fn is_run(alloc: Global, paragraph: &str) -> io::Result<bool> {
+    let Some((script, replies)) = parts_of(paragraph) else {
         return Ok(false);
     };
     let mut replies = replies.lines();

@@ -17,14 +17,15 @@ use texts::run_with_states;
 
 #[derive(Drop)]
 struct Run {
-    shows: bool,
+    with_states: bool,
 }
 
 impl<A: Allocator + Copy> Program<A> for Run {
-    ghost prints = { λ run input text status. run.shows ≡ false → Prints A input text status };
+    ghost prints = { λ run input text status.
+        run.with_states ≡ false → Prints A input text status };
 
     fn run(&self, alloc: A, input: &[u8]) -> Result<ScriptOutput<A>, NoMemory> {
-        if self.shows {
+        if self.with_states {
             run_with_states(alloc, input)
         } else {
             run_script(alloc, input)
@@ -42,5 +43,8 @@ impl<A: Allocator + Copy> Program<A> for Run {
 }
 
 fn main(rt: HostRuntime) -> ExitCode {
-    serve_on_host(&rt, asks_for(&rt, "--states").map(|shows| Run { shows }))
+    serve_on_host(
+        &rt,
+        asks_for(&rt, "--states").map(|with_states| Run { with_states }),
+    )
 }

@@ -101,7 +101,7 @@ fn waiting_in<A: Allocator + Copy>(
     receivers: &[(u64, Kind)],
 ) -> Result<Vec<u64, A>, NoMemory> {
     let mut waiting = Vec::new(alloc);
-    if let Reply::Truth(true) = chan.is_disconnected() {
+    if let Reply::Flag(true) = chan.is_disconnected() {
         return Ok(waiting);
     }
     for _ in receivers {

@@ -6,7 +6,7 @@ use Rattle.flume_model.specs.declared.step.Reply.TheVariants.{Sent, Full, Closed
 use Rattle.flume_model.specs.declared.step.Reply.TheVariants.{Pending, Accepted, Waiting, Returned}
 use Rattle.flume_model.specs.declared.step.Reply.TheVariants.{NoTicket, Got, Empty, Ended, Done}
 use Rattle.flume_model.specs.declared.step.Reply.TheVariants.{Parked, Gone, Drained}
-use Rattle.flume_model.specs.declared.step.Reply.TheVariants.{NoEnd, CountFull, Number, Truth}
+use Rattle.flume_model.specs.declared.step.Reply.TheVariants.{NoEnd, CountFull, Number, Flag}
 use Rattle.flume_model.specs.declared.step.Reply.TheVariants.{Capacity as Bound, Unbounded}
 
 -- numbers, with a space before each
@@ -43,8 +43,8 @@ reply_text Done = codes "done"
 reply_text NoEnd = codes "noend"
 reply_text CountFull = codes "countfull"
 reply_text (Number number) = decimal number
-reply_text (Truth true) = codes "true"
-reply_text (Truth false) = codes "false"
+reply_text (Flag true) = codes "true"
+reply_text (Flag false) = codes "false"
 reply_text (Bound None) = codes "none"
 reply_text (Bound (Some capacity)) = decimal capacity
 reply_text Unbounded = codes "unbounded"

@@ -36,7 +36,7 @@ pub struct ScriptOutput<A: Allocator = Global> {
 /// script.status;                     // 0
 /// ```
 pub fn run_script<A: Allocator + Copy>(alloc: A, input: &[u8]) -> Result<ScriptOutput<A>, NoMemory>
-    ensures prints { IfOk result (λ script. Prints A input.now script.text.items script.status) }
+    ensures prints { IfOk result (λ output. Prints A input.now output.text.items output.status) }
 {
     match read_script(alloc, input)? {
         Reading::Wrong { line } => refuse(alloc, line),
@@ -46,8 +46,8 @@ pub fn run_script<A: Allocator + Copy>(alloc: A, input: &[u8]) -> Result<ScriptO
 
 /// The output for a script whose first wrong line this is. `NoMemory`: an allocation failed.
 pub fn refuse<A: Allocator + Copy>(alloc: A, line: usize) -> Result<ScriptOutput<A>, NoMemory>
-    ensures text { IfOk result (λ script. script.text.items ≡ wrong_text line) }
-    ensures status { IfOk result (λ script. script.status ≡ 2) }
+    ensures text { IfOk result (λ output. output.text.items ≡ wrong_text line) }
+    ensures status { IfOk result (λ output. output.status ≡ 2) }
 {
     let mut text = String::new(alloc);
     writeln!(text, "line {line}: not a step")?;
@@ -62,9 +62,9 @@ fn answer<A: Allocator + Copy>(
     capacity: Option<usize>,
     steps: Vec<Step<u64>, A>,
 ) -> Result<ScriptOutput<A>, NoMemory>
-    ensures answers { IfOk result (λ script. (input : List ℕ)
+    ensures answers { IfOk result (λ output. (input : List ℕ)
         → IsScript IsStepLine (lines input) capacity steps.items
-        → Answers A input script.text.items script.status) }
+        → Answers A input output.text.items output.status) }
 {
     let mut chan = Chan::new(alloc, capacity);
     let Ok(replies) = run(alloc, &mut chan, steps) else {

@@ -19,8 +19,8 @@ pub trait Program<A: Allocator> {
 
     /// What it prints, and the exit status. `NoMemory`: an allocation failed.
     fn run(&self, alloc: A, input: &[u8]) -> Result<ScriptOutput<A>, NoMemory>
-        ensures prints { IfOk result (λ script.
-            prints self.now input.now script.text.items script.status) };
+        ensures prints { IfOk result (λ output.
+            prints self.now input.now output.text.items output.status) };
 
     /// Why a line is wrong: what goes to standard error if the status is 2.
     fn explain(
@@ -74,13 +74,13 @@ pub fn serve<A: Allocator + Copy, P: Program<A>, R: Read, W: Write, M: Write>(
         };
     }
     match program.run(alloc, &bytes) {
-        Ok(script) => {
-            if script.status == 2 {
-                if let Ok(why) = program.explain(alloc, &bytes, &script) {
+        Ok(prints) => {
+            if prints.status == 2 {
+                if let Ok(why) = program.explain(alloc, &bytes, &prints) {
                     let _ = messages.write_all(why.as_bytes());
                 }
             }
-            finish(output, &script.text, script.status)
+            finish(output, &prints.text, prints.status)
         }
         Err(NoMemory) => finish(output, OUT_OF_MEMORY, 3),
     }

@@ -1,7 +1,7 @@
 //! The texts of replies.
 ghost use Rattle.flume_script.specs.ReplyTexts.{spaced, reply_text, reply_texts};
 ghost use Rattle.flume_model.specs.declared.step.Reply.TheVariants.{Capacity, Gone, Returned, Sent};
-ghost use Rattle.flume_model.specs.declared.step.Reply.TheVariants.{Truth};
+ghost use Rattle.flume_model.specs.declared.step.Reply.TheVariants.{Flag};
 ghost use Rattle.std.specs.Fmt.{decimal};
 ghost use Rattle.std.specs.Prelude.{IfNone, IfOk, IfSome, OnOk, ◌≡◌, [], ◌∷◌, ◌++◌};
 ghost use Rattle.std.specs.Prelude.{codes, string_bytes};
@@ -83,11 +83,11 @@ fn write_refused<A: Allocator>(
     Ok(())
 }
 
-fn write_truth<A: Allocator>(text: &mut String<A>, truth: bool) -> Result<(), NoMemory>
+fn write_flag<A: Allocator>(text: &mut String<A>, flag: bool) -> Result<(), NoMemory>
     ensures value { OnOk result (string_bytes text.new
-        ≡ string_bytes text.old ++ (reply_text {A = A} (Truth truth) ++ 10 ∷ [])) }
+        ≡ string_bytes text.old ++ (reply_text {A = A} (Flag flag) ++ 10 ∷ [])) }
 {
-    if truth {
+    if flag {
         text.push_str("true\n")?;
     } else {
         text.push_str("false\n")?;
@@ -143,7 +143,7 @@ pub fn write_reply<A: Allocator>(
         Reply::NoEnd => text.push_str("noend\n")?,
         Reply::CountFull => text.push_str("countfull\n")?,
         Reply::Number(number) => writeln!(text, "{number}")?,
-        Reply::Truth(truth) => write_truth(text, *truth)?,
+        Reply::Flag(flag) => write_flag(text, *flag)?,
         Reply::Capacity(capacity) => write_capacity(text, *capacity)?,
         Reply::Unbounded => text.push_str("unbounded\n")?,
     })

@@ -9,11 +9,11 @@ use Rattle.flume_state.proofs.Chains.{ChainItem, times, places, found, without_p
 use Rattle.flume_state.proofs.Chains.{once_same, once_none, once_back, with_other, item, found_some}
 use Rattle.flume_state.proofs.Chains.{without_at, with_value_at}
 use Rattle.flume_state.specs.layout.WithTicket.{WithTicket, place_of, tickets}
-use Rattle.flume_state.specs.Sends.{changed}
+use Rattle.flume_state.specs.Sends.{with_send_changed}
 use Rattle.flume_state.specs.layout.SendLayout.{by_ticket}
-use Rattle.flume_state.proofs.EntryPartLemmas.{Apart, alone, edited_at}
+use Rattle.flume_state.proofs.EntryPartLemmas.{DistinctTickets, alone, edited_at}
 use Rattle.flume_state.proofs.TicketLemmas.{neither, times_amid, times_both}
-use Rattle.flume_state.proofs.SendMapLemmas.{same_by, get-insert_same, get-insert_other, changed-insert, remove-insert}
+use Rattle.flume_state.proofs.SendMapLemmas.{same_by, get-insert_same, get-insert_other, with_send_changed-insert, remove-insert}
 
 -- two numbers are the same either way round
 same_either : (a b : ℕ) → (a == b) ≡ (b == a)
@@ -75,16 +75,16 @@ module _ {X : Type 0} where
 
   -- an element with a changed value is a changed one in the map
   pub by_ticket_changed : (t p : ℕ) (v : X) (f : X → X) (xs ys : List (ChainItem (WithTicket X))) → value_of t xs ≡ None
-      → by_ticket (xs ++ item p (under t (f v)) ∷ ys) ≡ changed (by_ticket (xs ++ item p (under t v) ∷ ys)) t f
+      → by_ticket (xs ++ item p (under t (f v)) ∷ ys) ≡ with_send_changed (by_ticket (xs ++ item p (under t v) ∷ ys)) t f
   by_ticket_changed t p v f xs ys none =
       by_ticket_insert t p (f v) xs ys none
-      ∙ sym (changed-insert (by_ticket (xs ++ ys)) t v f)
-      ∙ ap (λ m. changed m t f) (sym (by_ticket_insert t p v xs ys none))
+      ∙ sym (with_send_changed-insert (by_ticket (xs ++ ys)) t v f)
+      ∙ ap (λ m. with_send_changed m t f) (sym (by_ticket_insert t p v xs ys none))
 
   -- an element with a changed value at the end is a changed one in the map
   pub by_ticket_moved : (t p : ℕ) (v : X) (f : X → X) (xs ys : List (ChainItem (WithTicket X))) → value_of t xs ≡ None
       → value_of t ys ≡ None
-      → by_ticket ((xs ++ ys) ++ item p (under t (f v)) ∷ []) ≡ changed (by_ticket (xs ++ item p (under t v) ∷ ys)) t f
+      → by_ticket ((xs ++ ys) ++ item p (under t (f v)) ∷ []) ≡ with_send_changed (by_ticket (xs ++ item p (under t v) ∷ ys)) t f
   by_ticket_moved t p v f xs ys none later =
       by_ticket_insert t p (f v) (xs ++ ys) [] (value_past t xs ys none ∙ later)
       ∙ ap (λ l. insert (by_ticket l) t (f v)) (append-nil (xs ++ ys))
@@ -117,11 +117,11 @@ module _ {X : Type 0} where
     pub none_behind : value_of t after ≡ None
 
   -- it is so among others, if no two have one place or one ticket
-  abbrev pub stands_amid : (t p : ℕ) (v : X) (items before after : List (ChainItem (WithTicket X))) → Apart items
+  abbrev pub stands_amid : (t p : ℕ) (v : X) (items before after : List (ChainItem (WithTicket X))) → DistinctTickets items
       → ((u : ℕ) → times u (tickets items) ≤ 1)
       → items ≡ before ++ item p (under t v) ∷ after → Occupied t p v items
   stands_amid t p v items before after apart single is =
-      let at = alone before after p (under t v) (subst Apart is apart) in
+      let at = alone before after p (under t v) (subst DistinctTickets is apart) in
       let most = single t in
       let here = ap (λ l. times t (tickets l)) is ∙ times_amid (λ y. y.element.label) t before after (item p (under t v)) in
       let own = once_same t in
@@ -137,7 +137,8 @@ module _ {X : Type 0} where
       }
 
   -- and where it is found
-  pub occupied : (t p : ℕ) (v : X) (items : List (ChainItem (WithTicket X))) → Apart items → ((u : ℕ) → times u (tickets items) ≤ 1)
+  pub occupied : (t p : ℕ) (v : X) (items : List (ChainItem (WithTicket X))) → DistinctTickets items
+      → ((u : ℕ) → times u (tickets items) ≤ 1)
       → found items p ≡ Some (under t v) → Occupied t p v items
   occupied t p v items apart single is =
       let s = found_some items p (under t v) is in stands_amid t p v items s.before s.after apart single s.is

@@ -13,8 +13,8 @@ use Rattle.flume_model.specs.Entries.{is_waiting, is_woken, waiting_count, again
 use Rattle.flume_model.specs.declared.entry.Entry.{Entry}
 use Rattle.flume_model.specs.declared.entry.Mark.{Mark}
 use Rattle.flume_model.specs.declared.entry.Mark.TheVariants.{Waiting, Woken, Filled}
-use Rattle.flume_state.specs.layout.EntryLayout.{Each, EntryLayout, after_asking, entries_in, entry_in, boundary_without}
-use Rattle.flume_state.specs.Receivers.{EntryList, noticed_receiver, waits_on}
+use Rattle.flume_state.specs.layout.EntryLayout.{Each, EntryLayout, after_asking, entries_in, entry_in, start_without}
+use Rattle.flume_state.specs.Receivers.{EntryList, with_receiver_notice, waits_on}
 use Rattle.flume_state.specs.declared.entries.ParkedReceiver.{ParkedReceiver}
 use Rattle.flume_state.specs.declared.notice.Notice.{Notice}
 use Rattle.flume_state.specs.layout.WithTicket.{WithTicket}
@@ -117,7 +117,7 @@ module _ {T S : Type 0} where
 
   -- if nobody is parked under a ticket, nothing changes
   pub asks_none : (f : Notice S → Notice S) (t : ℕ) (old : EntryList T S) → entry_of t old ≡ None
-      → old ≡ again t (noticed_receiver f t old)
+      → old ≡ again t (with_receiver_notice f t old)
   asks_none f t old none = sym (ap (again t) (noticed_none_of f t old none) ∙ ap (λ o. again_as t o old) none)
 
   -- its entry, with this notice
@@ -126,19 +126,19 @@ module _ {T S : Type 0} where
 
   -- what becomes of the entries if it asks again
   asks_at : (items : Items T S) (t k : ℕ) (signal : Option S) (old : EntryList T S) (q : Seated items t k) → entries_in items ≡ old
-      → again t (noticed_receiver (waits_on signal) t old)
+      → again t (with_receiver_notice (waits_on signal) t old)
       ≡ again_as t (Some (noticed signal q)) (entries_in q.before ++ noticed signal q ∷ entries_in q.after)
   asks_at items t k signal old q view =
       let x = entry_in (item k q.element) in
       let some = entry_at t (entries_in q.before) (entries_in q.after) (noticed signal q) q.ahead q.ticket in
-      ap (λ l. again t (noticed_receiver (waits_on signal) t l)) (sym view ∙ q.entries)
+      ap (λ l. again t (with_receiver_notice (waits_on signal) t l)) (sym view ∙ q.entries)
       ∙ ap (again t) (noticed_at (waits_on signal) t (entries_in q.before) (entries_in q.after) x q.ahead q.ticket)
       ∙ ap (λ o. again_as t o (entries_in q.before ++ noticed signal q ∷ entries_in q.after)) some
 
   -- one that waits has its notice changed in its place
   pub asks_entries : (items : Items T S) (t k : ℕ) (signal : Option S) (m : Mark T) (old : EntryList T S) (q : Seated items t k)
       → entries_in items ≡ old → q.element.value.mark ≡ m → is_woken m ≡ false → held_by (entry_of t old) ≡ None
-      → entries_in (with_value_at k items (after_asking m signal q.element.value)) ≡ again t (noticed_receiver (waits_on signal) t old)
+      → entries_in (with_value_at k items (after_asking m signal q.element.value)) ≡ again t (with_receiver_notice (waits_on signal) t old)
   asks_entries items t k signal Waiting old q view is asleep none =
       let v = after_asking Waiting signal q.element.value in
       let y = entry_in (item k (with_new_value v q.element)) in
@@ -196,13 +196,13 @@ module _ {T S : Type 0} where
   pub again_sorted : (items : Items T S) (due waits next : Option ℕ) (n t k : ℕ) (signal : Option S) (m : Mark T)
       → EntryLayout items due waits n → (q : Seated items t k) → q.element.value.mark ≡ m → is_woken m ≡ true → next ≡ place_after items k
       → EntryLayout (behind_all items k (with_new_value (after_asking m signal q.element.value) q.element))
-      (option_or (boundary_without due k next) (Some k)) (option_or (boundary_without waits k next) (Some k)) (n + 1)
+      (option_or (start_without due k next) (Some k)) (option_or (start_without waits k next) (Some k)) (n + 1)
   again_sorted items due waits next n t k signal Waiting s q is woken after = absurd (let none : ⊥ = cc in none)
   again_sorted items due waits next n t k signal (Filled message) s q is woken after = absurd (let none : ⊥ = cc in none)
   again_sorted items due waits next n t k signal Woken s q is woken after =
       let e = with_new_value (after_asking Woken signal q.element.value) q.element in
       let left = sorted_without items due waits next n n k q.element s q.here after (rw is (omega arith)) in
-      sorted_push (without_place items k) (boundary_without due k next) (boundary_without waits k next) n k e left
+      sorted_push (without_place items k) (start_without due k next) (start_without waits k next) n k e left
       (found_none (without_place items k) k (gone k items))
       (refl, refl) (omega (arith, s.fits, length-behind items t k e q))
 
@@ -210,7 +210,7 @@ module _ {T S : Type 0} where
   pub again_entries : (items : Items T S) (t k : ℕ) (signal : Option S) (m : Mark T) (old : EntryList T S) (q : Seated items t k)
       → entries_in items ≡ old → q.element.value.mark ≡ m → is_woken m ≡ true
       → entries_in (behind_all items k (with_new_value (after_asking m signal q.element.value) q.element))
-      ≡ again t (noticed_receiver (waits_on signal) t old)
+      ≡ again t (with_receiver_notice (waits_on signal) t old)
   again_entries items t k signal Waiting old q view is woken = absurd (let none : ⊥ = cc in none)
   again_entries items t k signal (Filled message) old q view is woken = absurd (let none : ⊥ = cc in none)
   again_entries items t k signal Woken old q view is woken =

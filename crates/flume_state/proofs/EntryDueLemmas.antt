@@ -12,7 +12,7 @@ use Rattle.flume_state.specs.declared.entries.ParkedReceiver.{ParkedReceiver}
 use Rattle.flume_state.specs.declared.notice.Notice.{Notice}
 use Rattle.flume_state.specs.layout.WithTicket.{WithTicket}
 use Rattle.flume_state.proofs.EntryListLemmas.{weight}
-use Rattle.flume_state.proofs.EntryPartLemmas.{Apart, alone, edited_at, first_same, front_at, seat_found, no_first}
+use Rattle.flume_state.proofs.EntryPartLemmas.{DistinctTickets, alone, edited_at, first_same, front_at, seat_found, no_first}
 use Rattle.flume_state.proofs.EntrySortedLemmas.{Is, Items, each-push, entries-append, waits-append}
 
 module _ {T S : Type 0} where
@@ -58,7 +58,7 @@ module _ {T S : Type 0} where
       ∙ marked_skip false tell m s.inactive (entries_in s.dues ++ entries_in s.last) s.are_inactive
       ∙ ap (λ l. entries_in s.inactive ++ l) (marked_skip true tell m s.dues (entries_in s.last) s.are_due)
 
-  -- if the boundary names no place, nobody waits
+  -- if the start names no place, nobody waits
   none_last : (items : Items T S) (due waits : Option ℕ) (n : ℕ) (s : EntryLayout items due waits n) → waits ≡ None → s.last ≡ []
   none_last items due waits n s none = no_first s.last (sym none ∙ s.first_waits)
 
@@ -93,7 +93,7 @@ module _ {T S : Type 0} where
       let f = front_at s.last k (sym h ∙ s.first_waits) in
       let is : items ≡ (s.inactive ++ s.dues) ++ item k f.element ∷ f.rest =
       s.is ∙ sym (append_assoc s.inactive s.dues s.last) ∙ ap (λ l. (s.inactive ++ s.dues) ++ l) f.is in
-      let a = alone (s.inactive ++ s.dues) f.rest k f.element (subst Apart is s.apart) in
+      let a = alone (s.inactive ++ s.dues) f.rest k f.element (subst DistinctTickets is s.apart) in
       let all : Each true false (item k f.element ∷ f.rest) = subst (Each true false) f.is s.wait in
       record {
         element = f.element;
@@ -118,7 +118,7 @@ module _ {T S : Type 0} where
   abbrev pub woken_value : Mark T → ParkedReceiver T S → ParkedReceiver T S
   woken_value m p = record p { mark = m; notice = due_now p.notice }
 
-  -- the first that waits is due from now on, and the boundary is behind it
+  -- the first that waits is due from now on, and the start is behind it
   pub sorted_woken : (items : Items T S) (due waits : Option ℕ) (n : ℕ) (k : ℕ) (m : Mark T) (s : EntryLayout items due waits n)
       (w : FirstWaiting items due waits n k s) → is_waiting m ≡ false
       → EntryLayout (with_value_at k items (woken_value m w.element.value)) due (place_after items k) (n - 1)

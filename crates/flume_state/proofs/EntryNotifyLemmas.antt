@@ -15,16 +15,16 @@ use Rattle.flume_state.specs.Receivers.{EntryList, NoDueReceiver, NamesReceiver}
 use Rattle.flume_state.specs.declared.entries.ParkedReceiver.{ParkedReceiver}
 use Rattle.flume_state.specs.declared.notice.Notice.{Notice}
 use Rattle.flume_state.specs.layout.WithTicket.{WithTicket}
-use Rattle.flume_state.proofs.EntryPartLemmas.{Apart, Front, alone, counted, edited_at, front_at, seat_found}
+use Rattle.flume_state.proofs.EntryPartLemmas.{DistinctTickets, Front, alone, counted, edited_at, front_at, seat_found}
 use Rattle.flume_state.proofs.EntrySortedLemmas.{Is, Items, each-push, entries-append, waits-append}
 use Rattle.flume_state.proofs.EntryDueLemmas.{revalued_entries}
 
 -- two boundaries that aren't said to be two are one
-pub one_boundary : (a b : Option ℕ) → not (option_eq nat_eq a b) ≡ false → a ≡ b
-one_boundary None None h = refl
-one_boundary None (Some k) h = absurd (let no : ⊥ = cc in no)
-one_boundary (Some j) None h = absurd (let no : ⊥ = cc in no)
-one_boundary (Some j) (Some k) h = elim (cases_Bool (nat_eq j k)) [
+pub same_start : (a b : Option ℕ) → not (option_eq nat_eq a b) ≡ false → a ≡ b
+same_start None None h = refl
+same_start None (Some k) h = absurd (let no : ⊥ = cc in no)
+same_start (Some j) None h = absurd (let no : ⊥ = cc in no)
+same_start (Some j) (Some k) h = elim (cases_Bool (nat_eq j k)) [
   | inl t ↦ ap Some (eqb-true j k t)
   | inr t ↦ absurd (let no : true ≡ false = ap not (sym t) ∙ h in let none : ⊥ = cc in none)
 ]
@@ -45,7 +45,8 @@ module _ {T S : Type 0} where
       All-cons (λ (e : Entry T (Notice S)). e.notice.due ≡ false) (entry_in x) (entries_in xs) all.1 (no_due w xs all.2)
 
   -- two boundaries at one place have nothing between them
-  nothing_between : (inactive dues last : Items T S) → Apart (inactive ++ (dues ++ last)) → first_place (dues ++ last) ≡ first_place last
+  nothing_between : (inactive dues last : Items T S) → DistinctTickets (inactive ++ (dues ++ last))
+      → first_place (dues ++ last) ≡ first_place last
       → dues ≡ []
   nothing_between inactive [] last apart same = refl
   nothing_between inactive (x ∷ xs) last apart same =
@@ -61,7 +62,7 @@ module _ {T S : Type 0} where
   pub none_due : (items : Items T S) (due waits : Option ℕ) (n : ℕ) → EntryLayout items due waits n → due ≡ waits
       → NoDueReceiver (entries_in items)
   none_due items due waits n s same =
-      let none = nothing_between s.inactive s.dues s.last (subst Apart s.is s.apart) (sym s.first_due ∙ same ∙ s.first_waits) in
+      let none = nothing_between s.inactive s.dues s.last (subst DistinctTickets s.is s.apart) (sym s.first_due ∙ same ∙ s.first_waits) in
       let two : entries_in items ≡ entries_in s.inactive ++ entries_in s.last =
       ap entries_in s.is ∙ ap (λ l. entries_in (s.inactive ++ (l ++ s.last))) none ∙ entries-append s.inactive s.last in
       subst NoDueReceiver (sym two)
@@ -91,7 +92,7 @@ module _ {T S : Type 0} where
   dues_at items due waits n k s other h =
       let f = front_due s.dues s.last k (λ same. other (s.first_due ∙ same ∙ sym s.first_waits)) (sym h ∙ s.first_due) in
       let is : items ≡ s.inactive ++ item k f.element ∷ (f.rest ++ s.last) = s.is ∙ ap (λ l. s.inactive ++ (l ++ s.last)) f.is in
-      let a = alone s.inactive (f.rest ++ s.last) k f.element (subst Apart is s.apart) in
+      let a = alone s.inactive (f.rest ++ s.last) k f.element (subst DistinctTickets is s.apart) in
       let all : Each false true (item k f.element ∷ f.rest) = subst (Each false true) f.is s.are_due in
       record {
         element = f.element;
@@ -109,7 +110,7 @@ module _ {T S : Type 0} where
   abbrev pub told_value : ParkedReceiver T S → ParkedReceiver T S
   told_value p = record p { notice = no_longer_due p.notice }
 
-  -- the first that was due is due no more, and the boundary is behind it
+  -- the first that was due is due no more, and the start is behind it
   pub sorted_told : (items : Items T S) (due waits : Option ℕ) (n : ℕ) (k : ℕ) (s : EntryLayout items due waits n)
       (d : Dues items due waits n k s)
       → EntryLayout (with_value_at k items (told_value d.element.value)) (place_after items k) waits n

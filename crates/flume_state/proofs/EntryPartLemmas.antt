@@ -10,7 +10,7 @@ use Rattle.flume_state.proofs.Chains.{once, times, ChainItem, places, found, wit
 use Rattle.flume_state.proofs.Chains.{place_after, times-append, once_same, once_none, once_back, with_same}
 use Rattle.flume_state.proofs.Chains.{item, found_none, found_put, found_some, without_none, after_at}
 use Rattle.flume_state.proofs.Chains.{edited_missing, changed_at, with_value_at}
-use Rattle.flume_state.specs.layout.EntryLayout.{boundary_without}
+use Rattle.flume_state.specs.layout.EntryLayout.{start_without}
 use Rattle.flume_state.specs.layout.WithTicket.{WithTicket}
 
 module _ {X Y : Type 0} (f : X → Y) where
@@ -29,8 +29,8 @@ passes f false x y = refl
 
 module _ {E : Type 0} where
   -- each place is of one element at most
-  abbrev pub Apart : List (ChainItem E) → Type 0
-  Apart items = (k : ℕ) → times k (places items) ≤ 1
+  abbrev pub DistinctTickets : List (ChainItem E) → Type 0
+  DistinctTickets items = (k : ℕ) → times k (places items) ≤ 1
 
   -- a place is as often in two lists of elements joined as in both
   pub counted : (k : ℕ) (xs ys : List (ChainItem E)) → times k (places (xs ++ ys)) ≡ times k (places xs) + times k (places ys)
@@ -45,7 +45,7 @@ module _ {E : Type 0} where
     pub behind : times k (places after) ≡ 0
 
   -- an element among others is at its place alone
-  pub alone : (before after : List (ChainItem E)) (k : ℕ) (e : E) → Apart (before ++ item k e ∷ after)
+  pub alone : (before after : List (ChainItem E)) (k : ℕ) (e : E) → DistinctTickets (before ++ item k e ∷ after)
       → (times k (places before) ≡ 0) × (times k (places after) ≡ 0)
   alone before after k e apart =
       let sum = counted k before (item k e ∷ after) in
@@ -54,10 +54,10 @@ module _ {E : Type 0} where
       (omega arith, omega arith)
 
   -- what is found is at its place alone
-  pub seat : (items : List (ChainItem E)) (k : ℕ) (e : E) → Apart items → found items k ≡ Some e → Seat items k e
+  pub seat : (items : List (ChainItem E)) (k : ℕ) (e : E) → DistinctTickets items → found items k ≡ Some e → Seat items k e
   seat items k e apart h =
       let s = found_some items k e h in
-      let a = alone s.before s.after k e (subst Apart s.is apart) in
+      let a = alone s.before s.after k e (subst DistinctTickets s.is apart) in
       record { before = s.before; after = s.after; is = s.is; ahead = a.0; behind = a.1 }
 
   -- what is at a place is found
@@ -112,9 +112,9 @@ module _ {E : Type 0} where
   first_same [] ys k e f = refl
   first_same (x ∷ xs) ys k e f = refl
 
-  -- the boundary of a part moves off the element at a place as the part is left without it
-  pub off_first : (xs ys : List (ChainItem E)) (k : ℕ) → Apart (xs ++ ys)
-      → first_place (without_place ys k) ≡ boundary_without (first_place ys) k (place_after (xs ++ ys) k)
+  -- the start of a part moves off the element at a place as the part is left without it
+  pub off_first : (xs ys : List (ChainItem E)) (k : ℕ) → DistinctTickets (xs ++ ys)
+      → first_place (without_place ys k) ≡ start_without (first_place ys) k (place_after (xs ++ ys) k)
   off_first xs [] k apart = refl
   off_first xs (y ∷ ys) k apart = elim (cases_Bool (y.place == k)) [
     | inl t ↦ (
@@ -128,7 +128,7 @@ module _ {E : Type 0} where
     | inr t ↦ rw t refl
   ]
 
-  -- the first element of a part, if the boundary names its place
+  -- the first element of a part, if the start names its place
   pub record Front (xs : List (ChainItem E)) (k : ℕ) : Type 0 where
     pub element : E
     pub rest : List (ChainItem E)

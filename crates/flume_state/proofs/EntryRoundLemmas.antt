@@ -7,7 +7,7 @@ use Rattle.flume_model.specs.declared.entry.Mark.{Mark}
 use Rattle.flume_model.specs.declared.entry.Mark.TheVariants.{Woken}
 use Rattle.flume_model.specs.declared.step.Kind.{Kind}
 use Rattle.flume_model.specs.declared.step.Kind.TheVariants.{Stream}
-use Rattle.flume_model.specs.Entries.{is_waiting, waiting_count, marked, round_at, filled_at, round, round_fills, all_woken}
+use Rattle.flume_model.specs.Entries.{is_waiting, waiting_count, marked, round_from, filled_at, round, round_fills, all_woken}
 use Rattle.flume_state.specs.layout.EntryLayout.{first_waiting, with_first_marked}
 
 -- if a sum is 0, so is what is added, and the bit that adds 1 is false
@@ -55,13 +55,13 @@ module _ {T N : Type 0} where
   -- the round ends at the first that waits, if its kind makes it so
   pub round_ends : (tell : N → N) (front : T) (mark : Mark T) (es : List (Entry T N)) (t : ℕ) (k : Kind)
       → ticket_and_kind (first_waiting es) ≡ Some (t, k)
-      → ((e : Entry T N) (as_are goes_on : List (Entry T N)) → round_at tell k front e as_are goes_on ≡ marked tell mark e ∷ as_are)
+      → ((e : Entry T N) (as_are goes_on : List (Entry T N)) → round_from tell k front e as_are goes_on ≡ marked tell mark e ∷ as_are)
       → with_first_marked tell mark es ≡ round tell front es
   round_ends tell front mark [] t k is ends = absurd (let none : ⊥ = cc in none)
   round_ends tell front mark (x ∷ es) t k is ends = elim (cases_Bool (is_waiting x.mark)) [
     | inl w ↦
         let goes_on = round tell front es in
-        rw w (sym (ends x es goes_on) ∙ ap (λ y. round_at tell y front x es goes_on) (sym (front_named x (first_waiting es) _ w is).1))
+        rw w (sym (ends x es goes_on) ∙ ap (λ y. round_from tell y front x es goes_on) (sym (front_named x (first_waiting es) _ w is).1))
     | inr w ↦
         rw w (ap (λ l. x ∷ l) (round_ends tell front mark es t k (behind_named x (first_waiting es) _ w is) ends))
   ]

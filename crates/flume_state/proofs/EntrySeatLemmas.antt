@@ -7,10 +7,10 @@ use Rattle.flume_model.specs.declared.entry.Entry.{Entry}
 use Rattle.flume_model.proofs.EntryListLemmas.{none_parts}
 use Rattle.flume_state.specs.layout.EntryLayout.{entries_in, entry_in}
 use Rattle.flume_state.specs.layout.WithTicket.{place_of, WithTicket}
-use Rattle.flume_state.specs.Receivers.{EntryList, noticed_receiver}
+use Rattle.flume_state.specs.Receivers.{EntryList, with_receiver_notice}
 use Rattle.flume_state.specs.declared.entries.ParkedReceiver.{ParkedReceiver}
 use Rattle.flume_state.specs.declared.notice.Notice.{Notice}
-use Rattle.flume_state.proofs.EntryPartLemmas.{Apart, alone, seat_found}
+use Rattle.flume_state.proofs.EntryPartLemmas.{DistinctTickets, alone, seat_found}
 use Rattle.flume_state.proofs.TicketLemmas.{neither}
 use Rattle.flume_state.proofs.EntrySortedLemmas.{Items, entries-append}
 
@@ -38,13 +38,13 @@ module _ {T N : Type 0} where
 module _ {T S : Type 0} where
   -- the notice of the first entry with a ticket is changed
   pub noticed_at : (f : Notice S → Notice S) (t : ℕ) (xs ys : EntryList T S) (e : Entry T (Notice S)) → entry_of t xs ≡ None
-      → e.ticket ≡ t → noticed_receiver f t (xs ++ e ∷ ys) ≡ xs ++ record e { notice = f e.notice } ∷ ys
+      → e.ticket ≡ t → with_receiver_notice f t (xs ++ e ∷ ys) ≡ xs ++ record e { notice = f e.notice } ∷ ys
   noticed_at f t [] ys e none is = rw (eq-eqb e.ticket t is) refl
   noticed_at f t (x ∷ xs) ys e none is =
       let p = none_parts t x xs none in rw p.0 (ap (λ l. x ∷ l) (noticed_at f t xs ys e p.1 is))
 
   -- if nobody has the ticket, no notice is changed
-  pub noticed_none_of : (f : Notice S → Notice S) (t : ℕ) (xs : EntryList T S) → entry_of t xs ≡ None → noticed_receiver f t xs ≡ xs
+  pub noticed_none_of : (f : Notice S → Notice S) (t : ℕ) (xs : EntryList T S) → entry_of t xs ≡ None → with_receiver_notice f t xs ≡ xs
   noticed_none_of f t [] none = refl
   noticed_none_of f t (x ∷ xs) none =
       let p = none_parts t x xs none in rw p.0 (ap (λ l. x ∷ l) (noticed_none_of f t xs p.1))
@@ -107,10 +107,10 @@ module _ {T S : Type 0} where
     pub entry : entry_of t (entries_in items) ≡ Some (entry_in (item k element))
 
   -- what is at the place that a ticket finds
-  pub seated : (items : Items T S) (t k : ℕ) → Apart items → place_of t items ≡ Some k → Seated items t k
+  pub seated : (items : Items T S) (t k : ℕ) → DistinctTickets items → place_of t items ≡ Some k → Seated items t k
   seated items t k apart h =
       let o = first_with items t k h in
-      let a = alone o.before o.after k o.element (subst Apart o.is apart) in
+      let a = alone o.before o.after k o.element (subst DistinctTickets o.is apart) in
       let all = ap entries_in o.is ∙ entries-append o.before (item k o.element ∷ o.after) in
       record {
         before = o.before;

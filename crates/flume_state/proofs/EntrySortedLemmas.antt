@@ -8,11 +8,12 @@ use Rattle.flume_state.proofs.Chains.{times, ChainItem, places, found, without_p
 use Rattle.flume_state.proofs.Chains.{place_after, once_more, item, without_at, none_placed}
 use Rattle.flume_state.proofs.Chains.{without_place-append}
 use Rattle.flume_model.specs.Entries.{is_waiting, waiting_count}
-use Rattle.flume_state.specs.layout.EntryLayout.{Each, EntryLayout, entries_in, entry_in, boundary_without}
+use Rattle.flume_state.specs.layout.EntryLayout.{Each, EntryLayout, entries_in, entry_in, start_without}
 use Rattle.flume_state.specs.declared.entries.ParkedReceiver.{ParkedReceiver}
 use Rattle.flume_state.specs.layout.WithTicket.{WithTicket}
 use Rattle.flume_state.proofs.EntryListLemmas.{count-append, count-le, weight}
-use Rattle.flume_state.proofs.EntryPartLemmas.{Apart, counted, first-push, length-without_place, off_first, seat, times-without_place}
+use Rattle.flume_state.proofs.EntryPartLemmas.{DistinctTickets, counted, first-push, length-without_place, off_first}
+use Rattle.flume_state.proofs.EntryPartLemmas.{seat, times-without_place}
 
 -- the elements of the chain
 abbrev pub Items : Type 0 → Type 0 → Type 0
@@ -74,7 +75,7 @@ module _ {T S : Type 0} where
       }
 
   -- those that wait, but for the one at a place
-  waits-without_place : (items : Items T S) (k : ℕ) (e : WithTicket (ParkedReceiver T S)) → Apart items → found items k ≡ Some e
+  waits-without_place : (items : Items T S) (k : ℕ) (e : WithTicket (ParkedReceiver T S)) → DistinctTickets items → found items k ≡ Some e
       → waiting_count (entries_in (without_place items k)) + weight (entry_in (item k e)) ≡ waiting_count (entries_in items)
   waits-without_place items k e apart h =
       let at = seat items k e apart h in
@@ -88,7 +89,7 @@ module _ {T S : Type 0} where
   pub sorted_without : (items : Items T S) (due waits next : Option ℕ) (n m : ℕ) (k : ℕ) (e : WithTicket (ParkedReceiver T S))
       → EntryLayout items due waits n
       → found items k ≡ Some e → next ≡ place_after items k → m + cond (is_waiting e.value.mark) 1 0 ≡ n
-      → EntryLayout (without_place items k) (boundary_without due k next) (boundary_without waits k next) m
+      → EntryLayout (without_place items k) (start_without due k next) (start_without waits k next) m
   sorted_without items due waits next n m k e s here after less =
       let inner = without_place-append s.dues s.last k in
       let last_is : items ≡ (s.inactive ++ s.dues) ++ s.last = s.is ∙ sym (append_assoc s.inactive s.dues s.last) in
@@ -103,10 +104,10 @@ module _ {T S : Type 0} where
         are_inactive = each-without_place false false s.inactive k s.are_inactive;
         are_due = each-without_place false true s.dues k s.are_due;
         wait = each-without_place true false s.last k s.wait;
-        first_due = ap₂ (λ o x. boundary_without o k x) s.first_due next_due
-            ∙ sym (off_first s.inactive (s.dues ++ s.last) k (subst Apart s.is s.apart)) ∙ ap first_place inner;
-        first_waits = ap₂ (λ o x. boundary_without o k x) s.first_waits next_waits
-            ∙ sym (off_first (s.inactive ++ s.dues) s.last k (subst Apart last_is s.apart));
+        first_due = ap₂ (λ o x. start_without o k x) s.first_due next_due
+            ∙ sym (off_first s.inactive (s.dues ++ s.last) k (subst DistinctTickets s.is s.apart)) ∙ ap first_place inner;
+        first_waits = ap₂ (λ o x. start_without o k x) s.first_waits next_waits
+            ∙ sym (off_first (s.inactive ++ s.dues) s.last k (subst DistinctTickets last_is s.apart));
         count = omega (arith, s.count, less, waits-without_place items k e s.apart here);
         apart = λ j. let no_more = times-without_place j k items in let most = s.apart j in omega arith;
         fits = omega (arith, s.fits, length-without_place k items);

@@ -6,7 +6,7 @@ use Rattle.flume_state.specs.layout.WithTicket.{WithTicket, tickets}
 use Rattle.flume_state.specs.Sends.{send_due_in, is_due_send}
 use Rattle.flume_state.specs.layout.SendLayout.{Element, by_ticket, EachDueIs, SendLayout}
 use Rattle.flume_state.proofs.ByTicketLemmas.{under, Occupied, stands_amid, stands_value, stands_written}
-use Rattle.flume_state.proofs.EntryPartLemmas.{Apart, alone, front_at, seat_found}
+use Rattle.flume_state.proofs.EntryPartLemmas.{DistinctTickets, alone, front_at, seat_found}
 use Rattle.flume_state.proofs.SendLineLemmas.{lined_append}
 
 module _ {S : Type 0} where
@@ -25,7 +25,8 @@ module _ {S : Type 0} where
     pub at : found items p ≡ Some element
     pub all_due : EachDueIs true (item p element ∷ tail)
 
-  due_at : (items : List (Element S)) (d : Option ℕ) (p : ℕ) (l : SendLayout items d) → d ≡ Some p → Apart items → DueAt items l.not_due p
+  due_at : (items : List (Element S)) (d : Option ℕ) (p : ℕ) (l : SendLayout items d) → d ≡ Some p → DistinctTickets items
+      → DueAt items l.not_due p
   due_at items d p l is apart =
       let h = front_at l.dues p (sym is ∙ l.first) in
       let parts = l.parts ∙ ap (λ (xs : List (Element S)). l.not_due ++ xs) h.is in
@@ -34,12 +35,12 @@ module _ {S : Type 0} where
         tail = h.rest;
         is = parts;
         at = ap (λ xs. found xs p) parts
-            ∙ seat_found l.not_due h.rest p h.element (alone l.not_due h.rest p h.element (subst Apart parts apart)).0;
+            ∙ seat_found l.not_due h.rest p h.element (alone l.not_due h.rest p h.element (subst DistinctTickets parts apart)).0;
         all_due = subst (EachDueIs true) h.is l.all_due;
       }
 
   pub first_due : (items : List (Element S)) (d : Option ℕ) (t p : ℕ) (v : LiveSend S) → SendLayout items d → d ≡ Some p
-      → Apart items → ((u : ℕ) → times u (tickets items) ≤ 1)
+      → DistinctTickets items → ((u : ℕ) → times u (tickets items) ≤ 1)
       → found items p ≡ Some (under t v) → FirstDue items t p v
   first_due items d t p v l is apart single at =
       let h = due_at items d p l is apart in
@@ -73,7 +74,8 @@ module _ {S : Type 0} where
   told_due items t p v f = ap send_due_in (stands_value t p v items f.occupied) ∙ f.due
 
   -- the first that is due is there
-  pub due_stands : (items : List (Element S)) (d : Option ℕ) (p : ℕ) → SendLayout items d → d ≡ Some p → Apart items → found items p ≢ None
+  pub due_stands : (items : List (Element S)) (d : Option ℕ) (p : ℕ) → SendLayout items d → d ≡ Some p → DistinctTickets items
+      → found items p ≢ None
   due_stands items d p l is apart = λ none.
       let h = due_at items d p l is apart in
       let no : Some h.element ≡ None = sym h.at ∙ none in

@@ -14,12 +14,12 @@ use Rattle.flume_state.proofs.Chains.{put_before_or_last}
 use Rattle.flume_state.specs.declared.sends.LiveSend.{LiveSend}
 use Rattle.flume_state.specs.declared.sends.PlacedSend.{PlacedSend}
 use Rattle.flume_state.specs.layout.WithTicket.{WithTicket, place_of, tickets}
-use Rattle.flume_state.specs.Sends.{changed}
+use Rattle.flume_state.specs.Sends.{with_send_changed}
 use Rattle.flume_state.specs.layout.SendLayout.{Element, SendLayout, by_ticket}
 use Rattle.flume_state.specs.layout.Pairing.{SendList, Link, send_in, sends_in, live_sends, link_of, link_at}
 use Rattle.flume_state.proofs.TicketLemmas.{Amid, put_amid, without_amid, without_fresh, ticket_place}
 use Rattle.flume_state.proofs.ByTicketLemmas.{under, held, Occupied, occupied, stands_value}
-use Rattle.flume_state.proofs.EntryPartLemmas.{Apart, passes}
+use Rattle.flume_state.proofs.EntryPartLemmas.{DistinctTickets, passes}
 use Rattle.flume_state.proofs.SendStepLemmas.{get_none, written_view, spent_view}
 use Rattle.flume_state.proofs.FirstDueLemmas.{FirstDue, first_due, due_stands}
 
@@ -38,7 +38,7 @@ module _ {S : Type 0} where
   places_sends [] = refl
   places_sends (x ∷ xs) = ap (λ (l : List ℕ). x.place ∷ l) (places_sends xs)
 
-  pub apart_sends : (xs : SendList S) → Apart xs → (k : ℕ) → times k (places (sends_in xs)) ≤ 1
+  pub apart_sends : (xs : SendList S) → DistinctTickets xs → (k : ℕ) → times k (places (sends_in xs)) ≤ 1
   apart_sends xs apart k = rw (places_sends xs) (apart k)
 
   tickets_sends : (xs : SendList S) → tickets (sends_in xs) ≡ tickets xs
@@ -96,7 +96,7 @@ module _ {S : Type 0} where
     pub occupied : Occupied t p o.send (sends_in xs)
 
   -- it is so if it is found
-  pub seat_of : (xs : SendList S) (p t : ℕ) (o : PlacedSend S) → Apart xs → ((u : ℕ) → times u (tickets xs) ≤ 1)
+  pub seat_of : (xs : SendList S) (p t : ℕ) (o : PlacedSend S) → DistinctTickets xs → ((u : ℕ) → times u (tickets xs) ≤ 1)
       → found xs p ≡ Some (under t o) → Seat xs p t o
   seat_of xs p t o apart single is = record {
     is = is;
@@ -105,7 +105,7 @@ module _ {S : Type 0} where
   }
 
   -- and if its ticket does
-  pub seat_at : (xs : SendList S) (p t : ℕ) (o : PlacedSend S) → Apart xs → ((u : ℕ) → times u (tickets xs) ≤ 1)
+  pub seat_at : (xs : SendList S) (p t : ℕ) (o : PlacedSend S) → DistinctTickets xs → ((u : ℕ) → times u (tickets xs) ≤ 1)
       → place_of t xs ≡ Some p → Some o ≡ option_map (λ e. e.value) (found xs p) → Seat xs p t o
   seat_at xs p t o apart single place value =
       let r = held t p xs apart place in
@@ -114,7 +114,7 @@ module _ {S : Type 0} where
       seat_of xs p t o apart single (r.1 ∙ ap (λ (w : PlacedSend S). Some (under t w)) one)
 
   -- a send that is read at a place is there
-  pub seat : (xs : SendList S) (p : ℕ) (o : PlacedSend S) → Apart xs → ((u : ℕ) → times u (tickets xs) ≤ 1)
+  pub seat : (xs : SendList S) (p : ℕ) (o : PlacedSend S) → DistinctTickets xs → ((u : ℕ) → times u (tickets xs) ≤ 1)
       → Some o ≡ option_map (λ e. e.value) (found xs p) → (t : ℕ) × Seat xs p t o
   seat xs p o apart single value =
       elim (found xs p) as (λ (x : Option (WithTicket (PlacedSend S))). found xs p ≡ x → Some o ≡ option_map (λ e. e.value) x
@@ -127,7 +127,7 @@ module _ {S : Type 0} where
       ] refl value
 
   -- the place of a ticket is that of its link
-  pub link_place : (xs : SendList S) (k : ℕ) (l : Link) → Apart xs → ((u : ℕ) → times u (tickets xs) ≤ 1)
+  pub link_place : (xs : SendList S) (k : ℕ) (l : Link) → DistinctTickets xs → ((u : ℕ) → times u (tickets xs) ≤ 1)
       → link_at xs k ≡ Some l → place_of l.ticket xs ≡ Some k
   link_place xs k l apart single is =
       elim (found xs k) as (λ (x : Option (WithTicket (PlacedSend S))). found xs k ≡ x → option_map link_of x ≡ Some l
@@ -141,7 +141,7 @@ module _ {S : Type 0} where
 
   -- the first that is due
   pub first_sent : (xs : SendList S) (d : Option ℕ) (t p : ℕ) (o : PlacedSend S) → SendLayout (sends_in xs) d → d ≡ Some p
-      → Apart xs → ((u : ℕ) → times u (tickets xs) ≤ 1)
+      → DistinctTickets xs → ((u : ℕ) → times u (tickets xs) ≤ 1)
       → Some t ≡ option_map (λ e. e.label) (found xs p) → Some o ≡ option_map (λ e. e.value) (found xs p)
       → FirstDue (sends_in xs) t p o.send
   first_sent xs d t p o l is apart single ticket value =
@@ -158,7 +158,7 @@ module _ {S : Type 0} where
   -- and whatever is read of it is there
   pub due_found : {X : Type 0} (f : WithTicket (PlacedSend S) → X) (xs : SendList S) (d : Option ℕ) (p : ℕ) → SendLayout (sends_in xs) d
       → d ≡ Some p
-      → Apart xs → None ≡ option_map f (found xs p) → ⊥
+      → DistinctTickets xs → None ≡ option_map f (found xs p) → ⊥
   due_found f xs d p l is apart none =
       due_stands (sends_in xs) d p l is (apart_sends xs apart) (found_sends xs p ∙ ap (option_map bare) (none_found f (found xs p) none))
 
@@ -178,7 +178,7 @@ module _ {S : Type 0} where
   link_put xs d p t o fresh k =
       link_amid _ xs p (under t o) (put_amid xs d (item p (under t o))) (none_placed xs p fresh) k
 
-  pub link_moved : (xs : SendList S) (p : ℕ) (e : WithTicket (PlacedSend S)) → Apart xs → found xs p ≡ Some e
+  pub link_moved : (xs : SendList S) (p : ℕ) (e : WithTicket (PlacedSend S)) → DistinctTickets xs → found xs p ≡ Some e
       → (k : ℕ) → link_at (without_place xs p ++ item p e ∷ []) k ≡ link_at xs k
   link_moved xs p e apart is k =
       let at = without_amid xs p e apart is in
@@ -186,7 +186,7 @@ module _ {S : Type 0} where
       link_amid _ (without_place xs p) p e (put_amid (without_place xs p) None (item p e)) none k
       ∙ sym (link_amid xs (without_place xs p) p e at none k)
 
-  pub link_without : (xs : SendList S) (p : ℕ) (e : WithTicket (PlacedSend S)) → Apart xs → found xs p ≡ Some e
+  pub link_without : (xs : SendList S) (p : ℕ) (e : WithTicket (PlacedSend S)) → DistinctTickets xs → found xs p ≡ Some e
       → (k : ℕ) → link_at (without_place xs p) k ≡ (if k == p then None else link_at xs k)
   link_without xs p e apart is k =
       let at = without_amid xs p e apart is in
@@ -231,7 +231,7 @@ module _ {S : Type 0} where
   -- what a send that is written leaves
   pub live_written : (xs : SendList S) (p t : ℕ) (o w : PlacedSend S) (f : LiveSend S → LiveSend S) → w.send ≡ f o.send
       → Occupied t p o.send (sends_in xs)
-      → live_sends (with_value_at p xs w) ≡ changed (live_sends xs) t f
+      → live_sends (with_value_at p xs w) ≡ with_send_changed (live_sends xs) t f
   live_written xs p t o w f same s =
       ap by_ticket (written_sends xs p w ∙ ap (with_value_at p (sends_in xs)) same) ∙ written_view (sends_in xs) t p o.send f s
 
@@ -240,7 +240,7 @@ module _ {S : Type 0} where
     pub sends : sends_in new ≡ without_place (with_value_at p (sends_in xs) w.send) p ++ item p (under t w.send) ∷ []
     pub links : (k : ℕ) → link_at new k ≡ link_at (with_value_at p xs w) k
 
-  pub moved : (xs new : SendList S) (p t : ℕ) (o w : PlacedSend S) (r : Bool) → Apart xs → Seat xs p t o
+  pub moved : (xs new : SendList S) (p t : ℕ) (o w : PlacedSend S) (r : Bool) → DistinctTickets xs → Seat xs p t o
       → (r ≡ true ↔ IsSome (found (with_value_at p xs w) p))
       → (r ≡ true → (e : WithTicket (PlacedSend S)) → found (with_value_at p xs w) p ≡ Some e
       → new ≡ without_place (with_value_at p xs w) p ++ item p e ∷ [])
@@ -265,7 +265,7 @@ module _ {S : Type 0} where
     pub link : (k : ℕ) → link_at new k ≡ (if k == p then None else link_at xs k)
     pub none : IfNone (link_at xs p) (new ≡ xs)
 
-  pub spent : (xs new : SendList S) (p : ℕ) → Apart xs → ((u : ℕ) → times u (tickets xs) ≤ 1)
+  pub spent : (xs new : SendList S) (p : ℕ) → DistinctTickets xs → ((u : ℕ) → times u (tickets xs) ≤ 1)
       → new ≡ without_place xs p → Spent xs new p
   spent xs new p apart single taken =
       elim (found xs p) as (λ (x : Option (WithTicket (PlacedSend S))). found xs p ≡ x → Spent xs new p) [
@@ -292,7 +292,7 @@ module _ {S : Type 0} where
       ] refl
 
   -- what is said of the place that a ticket may have
-  pub named : (xs : SendList S) (t : ℕ) (r : Option ℕ) → Apart xs → ((u : ℕ) → times u (tickets xs) ≤ 1) → r ≡ place_of t xs
+  pub named : (xs : SendList S) (t : ℕ) (r : Option ℕ) → DistinctTickets xs → ((u : ℕ) → times u (tickets xs) ≤ 1) → r ≡ place_of t xs
       → IfSome r (λ p. option_map (λ l. l.ticket) (link_at xs p) ≡ Some t)
       × IfSome r (λ p. option_map (λ l. l.accepted) (link_at xs p) ≡ option_map (λ s. s.accepted) (get (live_sends xs) t))
       × IfNone r (get (live_sends xs) t ≡ None)
@@ -307,14 +307,14 @@ module _ {S : Type 0} where
       )
 
   -- if a ticket is nowhere no link has it
-  pub link_nowhere : (xs : SendList S) (t k : ℕ) (l : Link) → Apart xs → ((u : ℕ) → times u (tickets xs) ≤ 1)
+  pub link_nowhere : (xs : SendList S) (t k : ℕ) (l : Link) → DistinctTickets xs → ((u : ℕ) → times u (tickets xs) ≤ 1)
       → place_of t xs ≡ None → link_at xs k ≡ Some l → l.ticket ≢ t
   link_nowhere xs t k l apart single none is = λ same.
       let no : Some k ≡ None = sym (link_place xs k l apart single is) ∙ ap (λ u. place_of u xs) same ∙ none in
       let never : ⊥ = cc in never
 
   -- and if it is somewhere only the link there
-  pub link_where : (xs : SendList S) (t k p : ℕ) (l : Link) → Apart xs → ((u : ℕ) → times u (tickets xs) ≤ 1)
+  pub link_where : (xs : SendList S) (t k p : ℕ) (l : Link) → DistinctTickets xs → ((u : ℕ) → times u (tickets xs) ≤ 1)
       → place_of t xs ≡ Some p → link_at xs k ≡ Some l → l.ticket ≡ t → k ≡ p
   link_where xs t k p l apart single at is same =
       let both : Some k ≡ Some p = sym (link_place xs k l apart single is) ∙ ap (λ u. place_of u xs) same ∙ at in cc

@@ -5,11 +5,11 @@ use Rattle.std.proofs.Common.{append_assoc}
 use Rattle.std.proofs.lemmas.List.Elements.{All-head, All-tail}
 use Rattle.flume_state.proofs.Chains.{ChainItem, times, places, first_place, place_after, once_none, once_back, item, after_at}
 use Rattle.flume_state.specs.Notices.{due_now}
-use Rattle.flume_state.specs.Sends.{SendMap, noticed_send}
+use Rattle.flume_state.specs.Sends.{SendMap, with_send_notice}
 use Rattle.flume_state.specs.Effects.{with_all_due}
 use Rattle.flume_state.specs.layout.MessageLayout.{Message, BlockedAt, MessageList, blocked_ahead, blocked_of, messages_of, MessageLayout}
 use Rattle.flume_state.specs.layout.Pairing.{HasLink, SendList, link_at, live_sends, under_tickets}
-use Rattle.flume_state.proofs.EntryPartLemmas.{Apart, alone, front_at, no_first}
+use Rattle.flume_state.proofs.EntryPartLemmas.{DistinctTickets, alone, front_at, no_first}
 use Rattle.flume_state.proofs.PlacedLemmas.{found_here}
 use Rattle.flume_state.proofs.MessageLemmas.{laid}
 use Rattle.flume_state.proofs.MessageStepLemmas.{send_place_at}
@@ -33,7 +33,7 @@ module _ {E : Type 0} where
       ∙ left_here xs ys x (omega arith)
 
   -- and from the place behind it on, those behind it
-  left_first : (xs ys : List (ChainItem E)) → Apart (xs ++ ys) → left_from (xs ++ ys) (first_place ys) ≡ length ys
+  left_first : (xs ys : List (ChainItem E)) → DistinctTickets (xs ++ ys) → left_from (xs ++ ys) (first_place ys) ≡ length ys
   left_first xs [] apart = refl
   left_first xs (y ∷ ys) apart = left_here xs ys y (alone xs ys y.place y.element apart).0
 
@@ -41,7 +41,7 @@ module _ {E : Type 0} where
 abbrev pub Marks : {S : Type 0} → Option ℕ → SendList S → SendList S → Type 0
 Marks None sends new = new ≡ sends
 Marks (Some send_place) sends new =
-    IfSome (link_at sends send_place) (λ l. live_sends new ≡ noticed_send due_now l.ticket (live_sends sends))
+    IfSome (link_at sends send_place) (λ l. live_sends new ≡ with_send_notice due_now l.ticket (live_sends sends))
     × ((k : ℕ) → link_at new k ≡ link_at sends k)
 
 module _ {T S : Type 0} where
@@ -57,14 +57,14 @@ module _ {T S : Type 0} where
   one_marked place None m bs initial sends new done w same = subst (λ s. ToMark bs initial s done) (sym same) w
   one_marked place (Some send_place) m bs initial sends new done w marked =
       let one = All-head (HasLink initial) _ bs w.held in
-      let live : live_sends new ≡ noticed_send due_now one.ticket (live_sends sends) =
-      subst (λ o. IfSome o (λ l. live_sends new ≡ noticed_send due_now l.ticket (live_sends sends))) (w.links send_place
+      let live : live_sends new ≡ with_send_notice due_now one.ticket (live_sends sends) =
+      subst (λ o. IfSome o (λ l. live_sends new ≡ with_send_notice due_now l.ticket (live_sends sends))) (w.links send_place
       ∙ one.is) marked.0 in
       record {
         held = All-tail (HasLink initial) _ bs w.held;
         links = λ k. marked.1 k ∙ w.links k;
         marks = ap (with_all_due (under_tickets initial bs)) (live
-            ∙ ap (λ n. noticed_send due_now n (live_sends sends)) (sym (ticket_by initial send_place _ one.is))) ∙ w.marks;
+            ∙ ap (λ n. with_send_notice due_now n (live_sends sends)) (sym (ticket_by initial send_place _ one.is))) ∙ w.marks;
       }
 
   -- the walk has come to a place, from which on those are left that are to be marked
@@ -85,7 +85,7 @@ module _ {T S : Type 0} where
         before = w.front;
         rest = w.back;
         is = w.is;
-        here = w.boundary;
+        here = w.start;
         left = subst (λ bs. ToMark bs sends sends (with_all_due (under_tickets sends list.blocked) (live_sends sends))) (sym is)
             (record { held = held; links = λ k. refl; marks = refl });
       }
@@ -103,13 +103,13 @@ module _ {T S : Type 0} where
     pub fewer : left_from items (place_after items place) < left_from items (Some place)
 
   pub walk_steps : (items : List (ChainItem (Message T))) (at : Option ℕ) (place : ℕ) (initial sends : SendList S) (done : SendMap S)
-      → Apart items
+      → DistinctTickets items
       → Walks items at initial sends done → at ≡ Some place → Stepped items place initial sends done
   walk_steps items at place initial sends done apart w some =
       let h = front_at w.rest place (sym some ∙ w.here) in
       let x = item place h.element in
       let split : items ≡ w.before ++ x ∷ h.rest = w.is ∙ ap (λ r. w.before ++ r) h.is in
-      let one : Apart (w.before ++ x ∷ h.rest) = subst Apart split apart in
+      let one : DistinctTickets (w.before ++ x ∷ h.rest) = subst DistinctTickets split apart in
       let none = (alone w.before h.rest place h.element one).0 in
       let send_place : send_place_at items place ≡ h.element.label =
       ap (λ l. send_place_at l place) split ∙ ap (option_and_then (λ e. e.label)) (found_here w.before h.rest x one) in
@@ -120,7 +120,7 @@ module _ {T S : Type 0} where
       ∙ left_here w.before h.rest x none in
       let behind : left_from items (place_after items place) ≡ length h.rest =
       ap (left_from items) after ∙ ap (λ l. left_from l (first_place h.rest)) moved
-      ∙ left_first (w.before ++ x ∷ []) h.rest (subst Apart moved apart) in
+      ∙ left_first (w.before ++ x ∷ []) h.rest (subst DistinctTickets moved apart) in
       record {
         on = λ new marked. record {
           before = w.before ++ x ∷ [];

@@ -7,7 +7,7 @@ use Rattle.flume_state.proofs.Chains.{first_element, place_after, with_label_at,
 use Rattle.flume_state.proofs.Chains.{after_at, put_before_or_last}
 use Rattle.flume_state.specs.layout.MessageLayout.{Message, BlockedAt, MessageList, AdmitsSend, blocked_ahead}
 use Rattle.flume_state.specs.layout.MessageLayout.{queued_of, blocked_of, messages_of, MessageLayout}
-use Rattle.flume_state.proofs.EntryPartLemmas.{Apart, alone, first-push, front_at}
+use Rattle.flume_state.proofs.EntryPartLemmas.{DistinctTickets, alone, first-push, front_at}
 use Rattle.flume_state.proofs.PlacedLemmas.{found_here, without_here, edited_here, put_ahead_between, first_left}
 use Rattle.flume_state.proofs.MessageLemmas.{queued_append, blocked_append, none_queued_append, unqueued, unblocked, laid, counts}
 
@@ -32,22 +32,22 @@ module _ {T : Type 0} where
   -- a message that joins the queue is between both parts
   pub queues : (items new : List (ChainItem (Message T))) (first label : Option ℕ) (count place space more : ℕ) (m : T)
       (list : MessageList T)
-      → MessageLayout items first count → messages_of items space ≡ list → Apart items
+      → MessageLayout items first count → messages_of items space ≡ list → DistinctTickets items
       → new ≡ put_before_or_last items first (record { place = place; element = record { label = label; value = m } }) → label ≡ None
       → Lays new first count (record list { queued = list.queued ++ m ∷ []; space = more })
   queues items new first label count place space more m list w view apart is none =
       let x = queued_at place m in
       let joined : new ≡ w.front ++ x ∷ [] ++ w.back =
       is ∙ ap (λ o. put_before_or_last items first (record { place = place; element = record { label = o; value = m } })) none
-      ∙ ap₂ (λ (l : List (ChainItem (Message T))) (o : Option ℕ). put_before_or_last l o x) w.is w.boundary
-      ∙ put_ahead_between w.front w.back x (subst Apart w.is apart) ∙ sym (append_assoc w.front (x ∷ []) w.back) in
+      ∙ ap₂ (λ (l : List (ChainItem (Message T))) (o : Option ℕ). put_before_or_last l o x) w.is w.start
+      ∙ put_ahead_between w.front w.back x (subst DistinctTickets w.is apart) ∙ sym (append_assoc w.front (x ∷ []) w.back) in
       let made : MessageLayout new first count = record {
         front = w.front ++ x ∷ [];
         back = w.back;
         is = joined;
         none_blocked = blocked_append w.front (x ∷ []) ∙ ap (λ (l : List (BlockedAt T)). l ++ []) w.none_blocked;
         none_queued = w.none_queued;
-        boundary = w.boundary;
+        start = w.start;
         counted = w.counted;
       } in
       record {
@@ -78,7 +78,7 @@ module _ {T : Type 0} where
         is = joined;
         none_blocked = w.none_blocked;
         none_queued = queued_append w.back (x ∷ []) ∙ ap (λ (l : List T). l ++ []) w.none_queued;
-        boundary = ap (λ o. option_or o (Some place)) w.boundary ∙ sym (first-push w.back x);
+        start = ap (λ o. option_or o (Some place)) w.start ∙ sym (first-push w.back x);
         counted =
             let known = (counts items first count space list w view).0 in
             let before = ap length w.is ∙ length-append w.front w.back in
@@ -127,7 +127,7 @@ module _ {T : Type 0} where
           is = rest ∙ ap behind_first split;
           none_blocked = head.1;
           none_queued = w.none_queued;
-          boundary = w.boundary;
+          start = w.start;
           counted = w.counted;
         } in
         record {
@@ -178,17 +178,17 @@ module _ {T : Type 0} where
   pub leaves : (items new before after : List (ChainItem (Message T))) (first next : Option ℕ) (count space : ℕ) (x : ChainItem (Message T))
       (list : MessageList T) (w : MessageLayout items first count) → Occupied items list w.front before after x
       → messages_of items space ≡ list
-      → w.back ≡ before ++ x ∷ after → Apart items → FirstWithout items first next x.place → new ≡ without_place items x.place
+      → w.back ≡ before ++ x ∷ after → DistinctTickets items → FirstWithout items first next x.place → new ≡ without_place items x.place
       → Lays new next (count - 1) (record list { blocked = blocked_of before ++ blocked_of after })
   leaves items new before after first next count space x list w s view split apart firsts is =
       let made : MessageLayout new next (count - 1) = record {
         front = w.front;
         back = before ++ after;
         is = is ∙ ap (λ (l : List (ChainItem (Message T))). without_place l x.place) s.among
-            ∙ without_here (w.front ++ before) after x (subst Apart s.among apart) ∙ append_assoc w.front before after;
+            ∙ without_here (w.front ++ before) after x (subst DistinctTickets s.among apart) ∙ append_assoc w.front before after;
         none_blocked = w.none_blocked;
         none_queued = s.others;
-        boundary = first_left items w.front before after x first next apart s.among (w.boundary ∙ ap first_place split) firsts.0 firsts.1;
+        start = first_left items w.front before after x first next apart s.among (w.start ∙ ap first_place split) firsts.0 firsts.1;
         counted =
             let all = w.counted in
             let n = ap length split ∙ length-append before (x ∷ after) in
@@ -217,15 +217,15 @@ module _ {T : Type 0} where
     pub admits : AdmitsSend list (messages_of new space) send_place
 
   pub admitted : (items new : List (ChainItem (Message T))) (first next : Option ℕ) (count space place : ℕ) (list : MessageList T)
-      → MessageLayout items first count → messages_of items space ≡ list → Apart items → first ≡ Some place
+      → MessageLayout items first count → messages_of items space ≡ list → DistinctTickets items → first ≡ Some place
       → new ≡ with_label_at place items None
       → next ≡ place_after new place → Admitted items new next (count - 1) space place list
   admitted items new first next count space place list w view apart some is behind =
-      let h = front_at w.back place (sym some ∙ w.boundary) in
+      let h = front_at w.back place (sym some ∙ w.start) in
       let x = item place h.element in
       let s = occupied items [] h.rest first count space x list w view h.is in
       let among : items ≡ w.front ++ x ∷ h.rest = w.is ∙ ap (λ (l : List (ChainItem (Message T))). w.front ++ l) h.is in
-      let one = subst Apart among apart in
+      let one = subst DistinctTickets among apart in
       let y = queued_at place h.element.value in
       let joined : new ≡ w.front ++ y ∷ h.rest =
       is ∙ ap (λ (l : List (ChainItem (Message T))). with_label_at place l None) among
@@ -236,7 +236,7 @@ module _ {T : Type 0} where
         is = joined ∙ sym (append_assoc w.front (y ∷ []) h.rest);
         none_blocked = blocked_append w.front (y ∷ []) ∙ ap (λ (l : List (BlockedAt T)). l ++ []) w.none_blocked;
         none_queued = s.others;
-        boundary = behind ∙ ap (λ (l : List (ChainItem (Message T))). place_after l place) joined
+        start = behind ∙ ap (λ (l : List (ChainItem (Message T))). place_after l place) joined
             ∙ after_at w.front h.rest place y.element (alone w.front h.rest place h.element one).0;
         counted = let all = w.counted in let n = ap length h.is in omega arith;
       } in

@@ -10,7 +10,7 @@ use Rattle.std.proofs.lemmas.List.{map-append}
 use Rattle.std.proofs.lemmas.List.Elements.{All-nil, All-cons, All-head, All-tail, All-append, All-push, All-map}
 use Rattle.flume_state.proofs.Chains.{times, times-append, once_same, once_none}
 use Rattle.flume_state.specs.Messages.{Blocked, Messages, Admits, TakesBack}
-use Rattle.flume_state.specs.Sends.{SendMap, changed, accepted_now}
+use Rattle.flume_state.specs.Sends.{SendMap, with_send_changed, accepted_now}
 use Rattle.flume_state.specs.layout.MessageLayout.{BlockedAt, MessageList, AdmitsSend, TakesOut}
 use Rattle.flume_state.specs.layout.Pairing.{SendList, Link, link_of, link_at, at_message, accepting}
 use Rattle.flume_state.specs.layout.Pairing.{send_place_at, ticket_at, under_ticket, under_tickets}
@@ -218,7 +218,7 @@ module _ {T S : Type 0} where
   -- the first blocked message joins the queue, and its send is accepted
   pub admits : (new old : SendList S) (l m : MessageList T) (o : ℕ) → Pairing l.blocked old → ((k : ℕ) → times k (places_of l.blocked) ≤ 1)
       → AdmitsSend l m o → LinksBut new old o (λ k. option_map (accepting true) (link_at old k))
-      → IfSome (link_at old o) (λ i. live_sends new ≡ changed (live_sends old) i.ticket accepted_now)
+      → IfSome (link_at old o) (λ i. live_sends new ≡ with_send_changed (live_sends old) i.ticket accepted_now)
       → Pairs m new (λ line. Admits (line_of l old) line)
   admits new old l m o paired apart a links live =
       let b : BlockedAt T = record { place = a.place; send_place = o; message = a.message } in
@@ -227,7 +227,7 @@ module _ {T S : Type 0} where
       let rest = All-tail (HasLink old) b m.blocked p.held in
       let alone = (around [] m.blocked b (subst (λ bs. (k : ℕ) → times k (places_of bs) ≤ 1) a.leaves apart)).1 in
       let same = same_but new old o _ m.blocked links (others old b m.blocked own rest alone) in
-      let becomes = subst (λ i. IfSome i (λ i. live_sends new ≡ changed (live_sends old) i.ticket accepted_now)) own.is live in
+      let becomes = subst (λ i. IfSome i (λ i. live_sends new ≡ with_send_changed (live_sends old) i.ticket accepted_now)) own.is live in
       record {
         paired = record {
           held = held_kept new old m.blocked same rest;

@@ -7,7 +7,7 @@ use Rattle.std.specs.Option.{option_or}
 use Rattle.flume_state.proofs.Chains.{without_place, first_place, item, put_before_or_last}
 use Rattle.flume_state.specs.declared.sends.LiveSend.{LiveSend}
 use Rattle.flume_state.specs.layout.SendLayout.{Element, EachDueIs, SendLayout}
-use Rattle.flume_state.proofs.EntryPartLemmas.{Apart, first-push, first_same}
+use Rattle.flume_state.proofs.EntryPartLemmas.{DistinctTickets, first-push, first_same}
 use Rattle.flume_state.proofs.PlacedLemmas.{put_ahead_between}
 use Rattle.flume_state.proofs.ByTicketLemmas.{under}
 
@@ -140,14 +140,14 @@ module _ {S : Type 0} where
 
   -- one more that isn't due is ahead of the first that is
   pub put_is : (items : List (Element S)) (d : Option ℕ) (x : Element S) (l : SendLayout items d)
-      → Apart items → put_before_or_last items d x ≡ l.not_due ++ x ∷ l.dues
+      → DistinctTickets items → put_before_or_last items d x ≡ l.not_due ++ x ∷ l.dues
   put_is items d x l apart =
       ap₂ (λ (xs : List (Element S)) (o : Option ℕ). put_before_or_last xs o x) l.parts l.first
-      ∙ put_ahead_between l.not_due l.dues x (subst Apart l.parts apart)
+      ∙ put_ahead_between l.not_due l.dues x (subst DistinctTickets l.parts apart)
 
   -- and the chain is one of such sends again
   pub put_lined : (items : List (Element S)) (d : Option ℕ) (p t : ℕ) (w : LiveSend S) → w.notice.due ≡ false → SendLayout items d
-      → Apart items → SendLayout (put_before_or_last items d (item p (under t w))) d
+      → DistinctTickets items → SendLayout (put_before_or_last items d (item p (under t w))) d
   put_lined items d p t w e l apart = record {
     not_due = l.not_due ++ item p (under t w) ∷ [];
     dues = l.dues;

@@ -5,7 +5,7 @@ use Rattle.std.specs.Cmp.{nat_cmp_total, unsigned_tied}
 use Rattle.std.specs.FinMap.{FinMap, get, insert, remove, get-insert, get-remove, same_map, nat_cmp-IsAntisymmetric}
 use Rattle.std.specs.Option.{option_map, option_map_or}
 use Rattle.std.specs.Ordering.{nat_cmp, eq_by_cmp}
-use Rattle.flume_state.specs.Sends.{changed}
+use Rattle.flume_state.specs.Sends.{with_send_changed}
 
 -- a ticket ties with itself
 tied : (k : ℕ) → eq_by_cmp nat_cmp k k ≡ true
@@ -42,33 +42,33 @@ module _ {X : Type 0} where
   get-remove_other m k q ne = get-remove nat_cmp_total m k q ∙ ap (λ b. cond b None (get m q)) (untied q k ne)
 
   -- `changed`, if there is a value
-  pub changed_some : (m : FinMap nat_cmp X) (k : ℕ) (f : X → X) (x : X) → get m k ≡ Some x → changed m k f ≡ insert m k (f x)
-  unfolding changed
+  pub changed_some : (m : FinMap nat_cmp X) (k : ℕ) (f : X → X) (x : X) → get m k ≡ Some x → with_send_changed m k f ≡ insert m k (f x)
+  unfolding with_send_changed
   changed_some m k f x e = ap (λ o. option_map_or (λ x. insert m k (f x)) o m) e
 
   -- `changed`, if there is none
-  pub changed_none : (m : FinMap nat_cmp X) (k : ℕ) (f : X → X) → get m k ≡ None → changed m k f ≡ m
-  unfolding changed
+  pub changed_none : (m : FinMap nat_cmp X) (k : ℕ) (f : X → X) → get m k ≡ None → with_send_changed m k f ≡ m
+  unfolding with_send_changed
   changed_none m k f e = ap (λ o. option_map_or (λ x. insert m k (f x)) o m) e
 
   -- what was changed is found changed
-  pub get-changed_same : (m : FinMap nat_cmp X) (k : ℕ) (f : X → X) → get (changed m k f) k ≡ option_map f (get m k)
+  pub get-changed_same : (m : FinMap nat_cmp X) (k : ℕ) (f : X → X) → get (with_send_changed m k f) k ≡ option_map f (get m k)
   get-changed_same m k f =
-      elim (get m k) as (λ o. get m k ≡ o → get (changed m k f) k ≡ option_map f o) [
+      elim (get m k) as (λ o. get m k ≡ o → get (with_send_changed m k f) k ≡ option_map f o) [
         | None ↦ λ e. ap (λ n. get n k) (changed_none m k f e) ∙ e
         | Some x ↦ λ e. ap (λ n. get n k) (changed_some m k f x e) ∙ get-insert_same m k (f x)
       ] refl
 
   -- and another key keeps what it has
-  pub get-changed_other : (m : FinMap nat_cmp X) (k : ℕ) (f : X → X) (q : ℕ) → q ≢ k → get (changed m k f) q ≡ get m q
+  pub get-changed_other : (m : FinMap nat_cmp X) (k : ℕ) (f : X → X) (q : ℕ) → q ≢ k → get (with_send_changed m k f) q ≡ get m q
   get-changed_other m k f q ne =
-      elim (get m k) as (λ o. get m k ≡ o → get (changed m k f) q ≡ get m q) [
+      elim (get m k) as (λ o. get m k ≡ o → get (with_send_changed m k f) q ≡ get m q) [
         | None ↦ λ e. ap (λ n. get n q) (changed_none m k f e)
         | Some x ↦ λ e. ap (λ n. get n q) (changed_some m k f x e) ∙ get-insert_other m k (f x) q ne
       ] refl
 
   -- a change that leaves the value as it was changes nothing
-  pub changed_same : (m : FinMap nat_cmp X) (k : ℕ) → changed m k (λ x. x) ≡ m
+  pub changed_same : (m : FinMap nat_cmp X) (k : ℕ) → with_send_changed m k (λ x. x) ≡ m
   changed_same m k =
       same_by _ _ k (get-changed_same m k (λ x. x) ∙ map_same (get m k)) (λ q ne. get-changed_other m k (λ x. x) q ne)
     where
@@ -87,14 +87,15 @@ module _ {X : Type 0} where
   remove_absent m k none = same_by _ _ k (get-remove_same m k ∙ sym none) (λ q ne. get-remove_other m k q ne)
 
   -- a change of what is then removed does not show
-  pub remove-changed : (m : FinMap nat_cmp X) (k : ℕ) (f : X → X) → remove (changed m k f) k ≡ remove m k
-  remove-changed m k f =
-      same_by _ _ k (get-remove_same (changed m k f) k ∙ sym (get-remove_same m k))
-      (λ q ne. get-remove_other (changed m k f) k q ne ∙ get-changed_other m k f q ne ∙ sym (get-remove_other m k q ne))
+  pub remove-with_send_changed : (m : FinMap nat_cmp X) (k : ℕ) (f : X → X) → remove (with_send_changed m k f) k ≡ remove m k
+  remove-with_send_changed m k f =
+      same_by _ _ k (get-remove_same (with_send_changed m k f) k ∙ sym (get-remove_same m k))
+      (λ q ne. get-remove_other (with_send_changed m k f) k q ne ∙ get-changed_other m k f q ne ∙ sym (get-remove_other m k q ne))
 
   -- a change of what was just inserted
-  pub changed-insert : (m : FinMap nat_cmp X) (k : ℕ) (v : X) (f : X → X) → changed (insert m k v) k f ≡ insert m k (f v)
-  changed-insert m k v f =
+  pub with_send_changed-insert : (m : FinMap nat_cmp X) (k : ℕ) (v : X) (f : X → X)
+      → with_send_changed (insert m k v) k f ≡ insert m k (f v)
+  with_send_changed-insert m k v f =
       same_by _ _ k (get-changed_same (insert m k v) k f ∙ ap (option_map f) (get-insert_same m k v) ∙ sym (get-insert_same m k (f v)))
       (λ q ne. get-changed_other (insert m k v) k f q ne ∙ get-insert_other m k v q ne ∙ sym (get-insert_other m k (f v) q ne))
 
@@ -103,13 +104,14 @@ module _ {X : Type 0} where
   option_map_twice f h (Some x) = refl
 
   -- two changes of one key are one
-  pub changed-changed : (m : FinMap nat_cmp X) (k : ℕ) (f h : X → X) → changed (changed m k f) k h ≡ changed m k (λ x. h (f x))
-  changed-changed m k f h =
+  pub with_send_changed-with_send_changed : (m : FinMap nat_cmp X) (k : ℕ) (f h : X → X)
+      → with_send_changed (with_send_changed m k f) k h ≡ with_send_changed m k (λ x. h (f x))
+  with_send_changed-with_send_changed m k f h =
       same_by _ _ k
-      (get-changed_same (changed m k f) k h ∙ ap (option_map h) (get-changed_same m k f) ∙ option_map_twice f h (get m k)
+      (get-changed_same (with_send_changed m k f) k h ∙ ap (option_map h) (get-changed_same m k f) ∙ option_map_twice f h (get m k)
       ∙ sym (get-changed_same m k (λ x. h (f x))))
-      (λ q ne. get-changed_other (changed m k f) k h q ne ∙ get-changed_other m k f q ne
+      (λ q ne. get-changed_other (with_send_changed m k f) k h q ne ∙ get-changed_other m k f q ne
       ∙ sym (get-changed_other m k (λ x. h (f x)) q ne))
 
 -- which changes of one key undo or join each other
-pub ruleset joins = (remove-insert, remove_absent, remove-changed, changed-insert, changed-changed)
+pub ruleset joins = (remove-insert, remove_absent, remove-with_send_changed, with_send_changed-insert, with_send_changed-with_send_changed)

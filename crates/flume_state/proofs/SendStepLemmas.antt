@@ -5,7 +5,7 @@ use Rattle.std.specs.FinMap.{get, insert, remove}
 use Rattle.std.specs.Option.{option_or, option_eq}
 use Rattle.flume_state.proofs.Chains.{times, without_place, place_after, item, without_place-append, with_value_at, put_before_or_last}
 use Rattle.flume_state.specs.declared.sends.LiveSend.{LiveSend}
-use Rattle.flume_state.specs.Sends.{changed, send_due_in, NoDueSend}
+use Rattle.flume_state.specs.Sends.{with_send_changed, send_due_in, NoDueSend}
 use Rattle.flume_state.specs.layout.SendLayout.{Element, by_ticket, EachDueIs, SendLayout}
 use Rattle.flume_state.specs.layout.WithTicket.{place_of, tickets}
 use Rattle.flume_state.proofs.SendMapLemmas.{changed_none}
@@ -13,8 +13,8 @@ use Rattle.flume_state.proofs.TicketLemmas.{times_both, times_none}
 use Rattle.flume_state.proofs.ByTicketLemmas.{under, value_of, get_by_ticket, value_none, by_ticket_insert}
 use Rattle.flume_state.proofs.ByTicketLemmas.{by_ticket_changed, by_ticket_moved, by_ticket_removed, Occupied}
 use Rattle.flume_state.proofs.ByTicketLemmas.{stands_without, stands_written, stands_again}
-use Rattle.flume_state.specs.layout.EntryLayout.{boundary_without}
-use Rattle.flume_state.proofs.EntryPartLemmas.{Apart, off_first, no_first}
+use Rattle.flume_state.specs.layout.EntryLayout.{start_without}
+use Rattle.flume_state.proofs.EntryPartLemmas.{DistinctTickets, off_first, no_first}
 use Rattle.flume_state.proofs.SendLineLemmas.{written_lined, moved_lined, lined_without, put_is}
 
 module _ {S : Type 0} where
@@ -24,16 +24,16 @@ module _ {S : Type 0} where
 
   -- and a change under it changes nothing
   pub none_changed : (items : List (Element S)) (t : ℕ) (f : LiveSend S → LiveSend S) → place_of t items ≡ None
-      → by_ticket items ≡ changed (by_ticket items) t f
+      → by_ticket items ≡ with_send_changed (by_ticket items) t f
   none_changed items t f is = sym (changed_none (by_ticket items) t f (get_none items t is))
 
   -- a send that is written is a changed one
   pub written_view : (items : List (Element S)) (t p : ℕ) (v : LiveSend S) (f : LiveSend S → LiveSend S) → Occupied t p v items
-      → by_ticket (with_value_at p items (f v)) ≡ changed (by_ticket items) t f
+      → by_ticket (with_value_at p items (f v)) ≡ with_send_changed (by_ticket items) t f
   written_view items t p v f s =
       ap by_ticket (stands_written t p v (f v) items s)
       ∙ by_ticket_changed t p v f s.before s.after s.none_ahead
-      ∙ ap (λ n. changed (by_ticket n) t f) (sym s.is)
+      ∙ ap (λ n. with_send_changed (by_ticket n) t f) (sym s.is)
 
   -- a send that is written is due if it was
   pub written_kept : (items : List (Element S)) (d : Option ℕ) (t p : ℕ) (v w : LiveSend S) → w.notice.due ≡ v.notice.due
@@ -52,11 +52,11 @@ module _ {S : Type 0} where
 
   -- it is a changed one
   pub moved_view : (items : List (Element S)) (t p : ℕ) (v : LiveSend S) (f : LiveSend S → LiveSend S) → Occupied t p v items
-      → by_ticket (without_place (with_value_at p items (f v)) p ++ item p (under t (f v)) ∷ []) ≡ changed (by_ticket items) t f
+      → by_ticket (without_place (with_value_at p items (f v)) p ++ item p (under t (f v)) ∷ []) ≡ with_send_changed (by_ticket items) t f
   moved_view items t p v f s =
       ap by_ticket (moved_is items t p v (f v) s)
       ∙ by_ticket_moved t p v f s.before s.after s.none_ahead s.none_behind
-      ∙ ap (λ n. changed (by_ticket n) t f) (sym s.is)
+      ∙ ap (λ n. with_send_changed (by_ticket n) t f) (sym s.is)
 
   -- and is the last that became due
   pub moved_kept : (items : List (Element S)) (d : Option ℕ) (t p : ℕ) (v w : LiveSend S) → v.notice.due ≡ false → w.notice.due ≡ true
@@ -68,7 +68,7 @@ module _ {S : Type 0} where
 
   -- one that blocks is one more
   pub put_view : (items : List (Element S)) (d : Option ℕ) (t p : ℕ) (w : LiveSend S) → SendLayout items d
-      → Apart items → place_of t items ≡ None
+      → DistinctTickets items → place_of t items ≡ None
       → by_ticket (put_before_or_last items d (item p (under t w))) ≡ insert (by_ticket items) t w
   put_view items d t p w l apart none =
       let both = ap (λ xs. times t (tickets xs)) l.parts ∙ times_both (λ y. y.element.label) t l.not_due l.dues in
@@ -86,8 +86,8 @@ module _ {S : Type 0} where
       ∙ ap (λ n. remove (by_ticket n) t) (sym s.is)
 
   -- the chain without one: the first that is due is the next one, if it was that
-  pub spent_kept : (items : List (Element S)) (d : Option ℕ) (p : ℕ) → Apart items → SendLayout items d
-      → SendLayout (without_place items p) (boundary_without d p (place_after items p))
+  pub spent_kept : (items : List (Element S)) (d : Option ℕ) (p : ℕ) → DistinctTickets items → SendLayout items d
+      → SendLayout (without_place items p) (start_without d p (place_after items p))
   spent_kept items d p apart l = record {
     not_due = without_place l.not_due p;
     dues = without_place l.dues p;
@@ -95,8 +95,8 @@ module _ {S : Type 0} where
     none_due = lined_without false l.not_due p l.none_due;
     all_due = lined_without true l.dues p l.all_due;
     first =
-        ap₂ (λ o (xs : List (Element S)). boundary_without o p (place_after xs p)) l.first l.parts
-        ∙ sym (off_first l.not_due l.dues p (subst Apart l.parts apart));
+        ap₂ (λ o (xs : List (Element S)). start_without o p (place_after xs p)) l.first l.parts
+        ∙ sym (off_first l.not_due l.dues p (subst DistinctTickets l.parts apart));
   }
 
   not_due_value : (t : ℕ) (xs : List (Element S)) → EachDueIs false xs → send_due_in (value_of t xs) ≡ false
@@ -115,11 +115,11 @@ module _ {S : Type 0} where
       ∙ not_due_value t l.not_due l.none_due
 
 -- the next one, if the place is the one that it is compared with
-pub bounded_same : (d : Option ℕ) (p : ℕ) (next : Option ℕ) → option_eq nat_eq d (Some p) ≡ true → boundary_without d p next ≡ next
+pub bounded_same : (d : Option ℕ) (p : ℕ) (next : Option ℕ) → option_eq nat_eq d (Some p) ≡ true → start_without d p next ≡ next
 bounded_same None p next e = absurd (let no : ⊥ = cc in no)
 bounded_same (Some k) p next e = ap (λ b. if b then next else Some k) e
 
 -- and none else
-pub bounded_other : (d : Option ℕ) (p : ℕ) (next : Option ℕ) → option_eq nat_eq d (Some p) ≡ false → boundary_without d p next ≡ d
+pub bounded_other : (d : Option ℕ) (p : ℕ) (next : Option ℕ) → option_eq nat_eq d (Some p) ≡ false → start_without d p next ≡ d
 bounded_other None p next e = refl
 bounded_other (Some k) p next e = ap (λ b. if b then next else Some k) e

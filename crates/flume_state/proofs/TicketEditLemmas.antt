@@ -4,7 +4,7 @@ use Rattle.std.specs.FinMap.{remove}
 use Rattle.flume_state.proofs.Chains.{ChainItem, found, without_place, moved_back, changed_at, with_value_at}
 use Rattle.flume_state.proofs.Chains.{item, without_at, edited_missing, moved_back_missing, moved_back_some}
 use Rattle.flume_state.proofs.Chains.{with_new_value}
-use Rattle.flume_state.proofs.EntryPartLemmas.{Apart, seat, edited_at}
+use Rattle.flume_state.proofs.EntryPartLemmas.{DistinctTickets, seat, edited_at}
 use Rattle.flume_state.specs.layout.WithTicket.{WithTicket, Agrees}
 use Rattle.flume_state.specs.layout.Places.{PlaceMap}
 use Rattle.flume_state.proofs.SendMapLemmas.{get-remove_same}
@@ -33,7 +33,8 @@ module _ {E : Type 0} where
   ] refl
 
   -- the elements with f of that at a place are all but that one, and f of it
-  written_amid : (f : WithTicket E → WithTicket E) (items : List (ChainItem (WithTicket E))) (k : ℕ) (e : WithTicket E) → Apart items
+  written_amid : (f : WithTicket E → WithTicket E) (items : List (ChainItem (WithTicket E))) (k : ℕ) (e : WithTicket E)
+      → DistinctTickets items
       → found items k ≡ Some e → Amid (changed_at f k items) (without_place items k) (item k (f e))
   written_amid f items k e apart is =
       let s = seat items k e apart is in
@@ -49,7 +50,8 @@ module _ {E : Type 0} where
       → Agrees (with_value_at k items v) m
   written_agrees v items m k a = elim (found items k) as (λ (o : Option (WithTicket E)). found items k ≡ o
       → Agrees (with_value_at k items v) m) [
-        | None ↦ λ none. subst (λ (l : List (ChainItem (WithTicket E))). Agrees l m) (sym (edited_missing (with_new_value v) items k none)) a
+        | None ↦ λ none. subst (λ (l : List (ChainItem (WithTicket E))). Agrees l m)
+            (sym (edited_missing (with_new_value v) items k none)) a
         | Some e ↦ λ is. replaced items (without_place items k) _ m k e (with_new_value v e) (without_amid items k e a.apart is)
             (written_amid (with_new_value v) items k e a.apart is) refl a
       ] refl

@@ -8,7 +8,7 @@ use Rattle.std.specs.FinMap.{empty, get, insert, remove, get-empty}
 use Rattle.flume_state.proofs.Chains.{ChainItem, once, times, places, found, without_place, put_before}
 use Rattle.flume_state.proofs.Chains.{once_same, once_none, once_more, item, without_at, put_before_or_last}
 use Rattle.flume_state.proofs.Chains.{none_placed}
-use Rattle.flume_state.proofs.EntryPartLemmas.{Apart, seat}
+use Rattle.flume_state.proofs.EntryPartLemmas.{DistinctTickets, seat}
 use Rattle.flume_state.proofs.PlacedLemmas.{found_here, without_here}
 use Rattle.flume_state.specs.layout.WithTicket.{WithTicket, tickets, place_of, Agrees}
 use Rattle.flume_state.specs.layout.Places.{PlaceMap}
@@ -102,9 +102,10 @@ module _ {E : Type 0} (items rest : List (ChainItem (WithTicket E))) (x : ChainI
       omega arith
 
   -- an element that is put in at a new place is found there, and without it the others are left
-  undone : times x.place (places rest) ≡ 0 → Apart rest → (found items x.place ≡ Some x.element) × (without_place items x.place ≡ rest)
+  undone : times x.place (places rest) ≡ 0 → DistinctTickets rest
+      → (found items x.place ≡ Some x.element) × (without_place items x.place ≡ rest)
   undone fresh apart =
-      let split = subst (λ l. Apart l) at.whole (put_apart fresh apart) in (
+      let split = subst (λ l. DistinctTickets l) at.whole (put_apart fresh apart) in (
         ap (λ l. found l x.place) at.whole ∙ found_here at.before at.after x split,
         ap (λ l. without_place l x.place) at.whole ∙ without_here at.before at.after x split ∙ sym at.others,
       )
@@ -169,7 +170,7 @@ module _ {E : Type 0} where
   put_amid items (Some k) x = put_before_amid items k x
 
   -- one that is put at a new place is found there, and without it the others are left
-  pub put_undone : (items : List (ChainItem (WithTicket E))) (next : Option ℕ) (x : ChainItem (WithTicket E)) → Apart items
+  pub put_undone : (items : List (ChainItem (WithTicket E))) (next : Option ℕ) (x : ChainItem (WithTicket E)) → DistinctTickets items
       → found items x.place ≡ None
       → (found (put_before_or_last items next x) x.place ≡ Some x.element)
       × (without_place (put_before_or_last items next x) x.place ≡ items)
@@ -177,7 +178,7 @@ module _ {E : Type 0} where
       undone (put_before_or_last items next x) items x empty (put_amid items next x) (none_placed items x.place fresh) apart
 
   -- those without a place are all but the element found there, if each place is of one
-  pub without_amid : (items : List (ChainItem (WithTicket E))) (k : ℕ) (e : WithTicket E) → Apart items → found items k ≡ Some e
+  pub without_amid : (items : List (ChainItem (WithTicket E))) (k : ℕ) (e : WithTicket E) → DistinctTickets items → found items k ≡ Some e
       → Amid items (without_place items k) (item k e)
   without_amid items k e apart is =
       let s = seat items k e apart is in
@@ -211,7 +212,8 @@ module _ {E : Type 0} where
       ] refl is
 
   -- the ticket of an element is where the element is
-  pub ticket_place : (xs : List (ChainItem (WithTicket E))) (p : ℕ) (e : WithTicket E) → Apart xs → ((u : ℕ) → times u (tickets xs) ≤ 1)
+  pub ticket_place : (xs : List (ChainItem (WithTicket E))) (p : ℕ) (e : WithTicket E) → DistinctTickets xs
+      → ((u : ℕ) → times u (tickets xs) ≤ 1)
       → found xs p ≡ Some e → place_of e.label xs ≡ Some p
   ticket_place xs p e apart single is =
       let at = without_amid xs p e apart is in
@@ -219,7 +221,7 @@ module _ {E : Type 0} where
       (single e.label))
 
   -- and so is a ticket that is seen at a place
-  pub label_place : (xs : List (ChainItem (WithTicket E))) (p t : ℕ) → Apart xs → ((u : ℕ) → times u (tickets xs) ≤ 1)
+  pub label_place : (xs : List (ChainItem (WithTicket E))) (p t : ℕ) → DistinctTickets xs → ((u : ℕ) → times u (tickets xs) ≤ 1)
       → option_eq nat_eq (option_map (λ e. e.label) (found xs p)) (Some t) ≡ true → place_of t xs ≡ Some p
   label_place xs p t apart single seen =
       elim (found xs p) as (λ (o : Option (WithTicket E)). found xs p ≡ o → option_eq nat_eq (option_map (λ e. e.label) o) (Some t) ≡ true

@@ -6,7 +6,7 @@ use Rattle.std.proofs.lemmas.Bool.{cases_Bool, eqb-true}
 use Rattle.flume_state.proofs.Chains.{once, times, ChainItem, places, found, without_place, once_same, once_back, item, Split, found_some}
 use Rattle.flume_state.specs.layout.MessageLayout.{Message, BlockedAt, MessageList, TakesOut, blocked_ahead}
 use Rattle.flume_state.specs.layout.MessageLayout.{blocked_of, messages_of, MessageLayout}
-use Rattle.flume_state.proofs.EntryPartLemmas.{Apart}
+use Rattle.flume_state.proofs.EntryPartLemmas.{DistinctTickets}
 use Rattle.flume_state.proofs.PlacedLemmas.{found_here}
 use Rattle.flume_state.proofs.MessageLemmas.{unblocked}
 use Rattle.flume_state.proofs.PairLemmas.{elsewhere}
@@ -45,7 +45,7 @@ module _ {T : Type 0} where
   ]
 
   pub absent : (items : List (ChainItem (Message T))) (space place : ℕ) (list : MessageList T) → messages_of items space ≡ list
-      → Apart items
+      → DistinctTickets items
       → None ≡ send_place_at items place → All (λ b. b.place ≢ place) list.blocked
   absent items space place list view apart none =
       subst (λ (l : MessageList T). All (λ b. b.place ≢ place) l.blocked) view
@@ -53,7 +53,7 @@ module _ {T : Type 0} where
 
   -- so no two are at the same one
   pub blocked_apart : (items : List (ChainItem (Message T))) (space : ℕ) (list : MessageList T) → messages_of items space ≡ list
-      → Apart items
+      → DistinctTickets items
       → (k : ℕ) → times k (map (λ b. b.place) list.blocked) ≤ 1
   blocked_apart items space list view apart k =
       let less = fewer k items in
@@ -112,7 +112,8 @@ module _ {T : Type 0} where
 
   pub withdraws : (items new : List (ChainItem (Message T))) (first next : Option ℕ) (count space place send_place : ℕ)
       (list : MessageList T)
-      → MessageLayout items first count → messages_of items space ≡ list → Apart items → Some send_place ≡ send_place_at items place
+      → MessageLayout items first count → messages_of items space ≡ list → DistinctTickets items
+      → Some send_place ≡ send_place_at items place
       → FirstWithout items first next place → new ≡ without_place items place → Withdrawn items new next (count - 1) space place list
   withdraws items new first next count space place send_place list w view apart has firsts is =
       let h = holds items first count place send_place w has in
@@ -121,7 +122,7 @@ module _ {T : Type 0} where
       let l = leaves items new h.1.before h.1.after first next count space x list w s view h.1.is apart firsts is in
       record {
         element = h.0;
-        is = ap (λ k. found k place) s.among ∙ found_here (w.front ++ h.1.before) h.1.after x (subst Apart s.among apart);
+        is = ap (λ k. found k place) s.among ∙ found_here (w.front ++ h.1.before) h.1.after x (subst DistinctTickets s.among apart);
         layout = l.layout;
         takes = record {
           send_place = s.send_place;

@@ -8,7 +8,7 @@ use Rattle.flume_model.specs.Line.{greater}
 use Rattle.flume_model.specs.declared.step.Kind.{Kind}
 use Rattle.flume_state.specs.Messages.{Blocked}
 use Rattle.flume_state.specs.Notices.{due_now}
-use Rattle.flume_state.specs.Sends.{SendMap, changed, accepted_now, noticed_send}
+use Rattle.flume_state.specs.Sends.{SendMap, with_send_changed, accepted_now, with_send_notice}
 use Rattle.flume_model.specs.Entries.{all_woken, entry_of, without_ticket, round_for}
 use Rattle.flume_model.specs.Entries.{round_for_fills, passes_on, leave_fills, waiting_count}
 use Rattle.flume_state.specs.Receivers.{EntryList, new_receiver, after_fill}
@@ -18,7 +18,7 @@ module _ {T S : Type 0} where
   -- the live sends, if each of these blocked ones is due
   abbrev pub with_all_due : List (Blocked T) → SendMap S → SendMap S
   with_all_due [] sends = sends
-  with_all_due (b ∷ blocked) sends = with_all_due blocked (noticed_send due_now b.ticket sends)
+  with_all_due (b ∷ blocked) sends = with_all_due blocked (with_send_notice due_now b.ticket sends)
 
   -- the state whose first blocked message, of these, has joined the queue
   abbrev pub after_admission_of : List (Blocked T) → State T S → State T S
@@ -26,7 +26,7 @@ module _ {T S : Type 0} where
   after_admission_of (b ∷ later) s = record s {
     queue = s.queue ++ b.message ∷ [];
     blocked = later;
-    sends = changed s.sends b.ticket accepted_now;
+    sends = with_send_changed s.sends b.ticket accepted_now;
   }
 
   -- the state whose first blocked message, if one is blocked, has joined the queue
@@ -34,8 +34,9 @@ module _ {T S : Type 0} where
   after_admission s = after_admission_of s.blocked s
 
   -- the state whose first blocked message has joined the queue, if the queue has room
-  abbrev pub after_refill : State T S → State T S
-  after_refill s = if not (is_full s.capacity (length s.queue)) then after_admission s else s
+  abbrev pub after_admission_if_room : State T S → State T S
+  after_admission_if_room s =
+      if not (is_full s.capacity (length s.queue)) then after_admission s else s
 
   -- the state whose first blocked message has joined the queue, if this queue is empty
   abbrev pub with_front_of : List T → State T S → State T S
@@ -53,7 +54,7 @@ module _ {T S : Type 0} where
       if is_full s.capacity (length s.queue) then s else after_admissions_of later (record s {
         queue = s.queue ++ b.message ∷ [];
         blocked = later;
-        sends = changed s.sends b.ticket accepted_now;
+        sends = with_send_changed s.sends b.ticket accepted_now;
       })
 
   -- the state whose queue takes blocked messages in while it has room
@@ -80,7 +81,7 @@ module _ {T S : Type 0} where
 
   -- the state after the front of the line was handed out, which left this of the queue
   abbrev pub after_take : List T → State T S → State T S
-  after_take rest s = after_refill (record (with_front s) { queue = rest })
+  after_take rest s = after_admission_if_room (record (with_front s) { queue = rest })
 
   -- the state after this receiver has left, with a wake round if it passes its wake on
   abbrev pub after_withdrawal : ℕ → State T S → State T S
@@ -106,10 +107,10 @@ module _ {T S : Type 0} where
   pub record Begins (old new : State T S) (ticket : ℕ) (kind : Kind) (signal : S) : Type 0 where
     pub nothing : (with_front old).queue ≡ []
     pub is_open : IsOpen old.senders old.receivers
-    pub below_most : old.next < most
-    pub next_is : ticket ≡ old.next
+    pub below_most : old.next_ticket < most
+    pub next_is : ticket ≡ old.next_ticket
     pub parked : new ≡ with_peak (old.entries ++ new_receiver ticket kind signal ∷ [])
-        (record old { next = old.next + 1 })
+        (record old { next_ticket = old.next_ticket + 1 })
 
   -- a parked receiver leaves with no message, and its wake fills this one, if it fills one
   pub record Departs (old new : State T S) (ticket : ℕ) (closed : Bool) (filled : Option ℕ)

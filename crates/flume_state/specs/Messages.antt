@@ -2,7 +2,7 @@
 use Rattle.std.specs.Prelude.{◌≡◌, ◌≢◌, ◌+◌, ℕ, List, [], ◌∷◌, ◌++◌, length}
 use Rattle.std.specs.List.{All}
 use Rattle.std.specs.FinMap.{remove}
-use Rattle.flume_state.specs.Sends.{SendMap, changed, accepted_now}
+use Rattle.flume_state.specs.Sends.{SendMap, with_send_changed, accepted_now}
 
 -- a message whose sender blocks under this ticket
 pub record Blocked (T : Type 0) : Type 0 where
@@ -28,7 +28,7 @@ module _ {T S : Type 0} where
     pub becomes : new ≡ record old {
       queued = old.queued ++ first.message ∷ [];
       blocked = new.blocked;
-      sends = changed old.sends first.ticket accepted_now;
+      sends = with_send_changed old.sends first.ticket accepted_now;
     }
 
   -- the first blocked message with this ticket, which is this one, leaves, and its ticket is spent

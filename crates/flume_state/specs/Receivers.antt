@@ -29,11 +29,11 @@ after_fill (Some ticket) [] = []
 after_fill (Some ticket) (front ∷ queue) = queue
 
 -- it asks by looking at the line
-abbrev pub looks : Option ReceiverStatus → Bool
-looks (Some BlockWoken) = true
-looks (Some IsWaiting) = true
-looks (Some IsWoken) = true
-looks _ = false
+abbrev pub looks_at_line : Option ReceiverStatus → Bool
+looks_at_line (Some BlockWoken) = true
+looks_at_line (Some IsWaiting) = true
+looks_at_line (Some IsWoken) = true
+looks_at_line _ = false
 
 -- it blocks, and isn't filled: it leaves with the front of the line
 abbrev pub is_unfilled_block : Option ReceiverStatus → Bool
@@ -72,11 +72,11 @@ module _ {T S : Type 0} where
   }
 
   -- the entries with the notice of a ticket changed
-  abbrev pub noticed_receiver : (Notice S → Notice S) → ℕ → EntryList T S → EntryList T S
-  noticed_receiver f t [] = []
-  noticed_receiver f t (e ∷ entries) =
+  abbrev pub with_receiver_notice : (Notice S → Notice S) → ℕ → EntryList T S → EntryList T S
+  with_receiver_notice f t [] = []
+  with_receiver_notice f t (e ∷ entries) =
       if e.ticket == t then record e { notice = f e.notice } ∷ entries
-      else e ∷ noticed_receiver f t entries
+      else e ∷ with_receiver_notice f t entries
 
   -- the state of an entry
   abbrev pub status_of : Entry T (Notice S) → ReceiverStatus

@@ -36,12 +36,12 @@ abbrev pub with_notice : {S : Type 0} → (Notice S → Notice S) → LiveSend S
 with_notice f s = record s { notice = f s.notice }
 
 -- the map with f of its value at k, and as it was if it has none there
-unfoldable pub changed : {X : Type 0} → FinMap nat_cmp X → ℕ → (X → X) → FinMap nat_cmp X
-changed m k f = option_map_or (λ x. insert m k (f x)) (get m k) m
+unfoldable pub with_send_changed : {X : Type 0} → FinMap nat_cmp X → ℕ → (X → X) → FinMap nat_cmp X
+with_send_changed m k f = option_map_or (λ x. insert m k (f x)) (get m k) m
 
 -- the live sends with the notice of a ticket changed
-abbrev pub noticed_send : {S : Type 0} → (Notice S → Notice S) → ℕ → SendMap S → SendMap S
-noticed_send f t sends = changed sends t (with_notice f)
+abbrev pub with_send_notice : {S : Type 0} → (Notice S → Notice S) → ℕ → SendMap S → SendMap S
+with_send_notice f t sends = with_send_changed sends t (with_notice f)
 
 -- the live send that may be there is due
 abbrev pub send_due_in : {S : Type 0} → Option (LiveSend S) → Bool

@@ -4,7 +4,7 @@ use Rattle.std.specs.Option.{option_map, option_or}
 use Rattle.std.specs.FinMap.{get}
 use Rattle.flume_model.specs.Entries.{entry_of}
 use Rattle.flume_state.specs.Notices.{no_longer_due}
-use Rattle.flume_state.specs.Sends.{noticed_send, is_due_send}
+use Rattle.flume_state.specs.Sends.{with_send_notice, is_due_send}
 use Rattle.flume_state.specs.Receivers.{NamesReceiver}
 use Rattle.flume_state.specs.State.{State}
 
@@ -18,7 +18,7 @@ module _ {T S : Type 0} where
   -- a ticket that was due is named: one of a send, or of a parked receiver
   pub data NamesDueTicket (old new : State T S) (ticket : ℕ) : Type 0 where
     Send : is_due_send old.sends ticket ≡ true
-        → new ≡ record old { sends = noticed_send no_longer_due ticket old.sends }
+        → new ≡ record old { sends = with_send_notice no_longer_due ticket old.sends }
         → NamesDueTicket old new ticket
     Receive : NamesReceiver old.entries new.entries ticket
         → new ≡ record old { entries = new.entries } → NamesDueTicket old new ticket

@@ -20,7 +20,7 @@ pub record State (T S : Type 0) : Type 0 where
   pub space : ℕ
   pub sends : SendMap S
   pub entries : EntryList T S
-  pub next : ℕ
+  pub next_ticket : ℕ
   -- the most receivers that waited at once
   pub peak : ℕ
   pub senders : ℕ
@@ -37,7 +37,7 @@ module _ {T S : Type 0} where
     space = 0;
     sends = empty;
     entries = [];
-    next = opening.first;
+    next_ticket = opening.first;
     peak = 0;
     senders = 1;
     receivers = 1;

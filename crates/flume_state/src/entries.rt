@@ -5,9 +5,9 @@ ghost use Rattle.std.specs.Option.{option_map, option_copied};
 ghost use Rattle.flume_model.specs.Entries.{is_woken, some_wait, waiting_count};
 ghost use Rattle.flume_model.specs.Entries.{entry_of, held_by, held_in};
 ghost use Rattle.flume_model.specs.Entries.{without_ticket, again};
-ghost use Rattle.flume_state.specs.Receivers.{new_receiver, waits_on, noticed_receiver};
+ghost use Rattle.flume_state.specs.Receivers.{new_receiver, waits_on, with_receiver_notice};
 ghost use Rattle.flume_state.specs.Receivers.{status_by, status_of};
-ghost use Rattle.flume_state.specs.layout.EntryLayout.{after_asking, boundary_without};
+ghost use Rattle.flume_state.specs.layout.EntryLayout.{after_asking, start_without};
 
 mod wakes;
 
@@ -97,14 +97,10 @@ impl<T: Drop, S: Drop> ParkedReceiver<T, S> {
 }
 
 #[inline(always)]
-fn boundary_without(boundary: Option<u32>, place: u32, next: Option<u32>) -> Option<u32>
-    ensures boundary { result ≡ boundary_without boundary place next }
+fn start_without(start: Option<u32>, place: u32, next: Option<u32>) -> Option<u32>
+    ensures start { result ≡ start_without start place next }
 {
-    if boundary == Some(place) {
-        next
-    } else {
-        boundary
-    }
+    if start == Some(place) { next } else { start }
 }
 
 impl<T, S, A: Allocator> Model for Entries<T, S, A> {
@@ -204,19 +200,19 @@ impl<T: Drop, S: Drop, A: Allocator + Copy> Entries<T, S, A> {
         let parked = self.chain.get_mut(place)?;
         let mark = mem::replace(&mut parked.mark, Mark::Waiting);
         self.chain.discard(place);
-        self.due = boundary_without(self.due, place, next);
-        self.waits = boundary_without(self.waits, place, next);
+        self.due = start_without(self.due, place, next);
+        self.waits = start_without(self.waits, place, next);
         if let Mark::Waiting = mark {
             self.waiting -= 1;
         }
         message_in(mark)
     }
 
-    /// This receiver waits on, behind all others if it was woken, and isn't due; a signal given here
-    /// replaces its own. A filled one stays as it is.
+    /// It waits on, behind all others if it was woken, and isn't due; a signal given here replaces
+    /// its own. A filled one stays as it is.
     pub fn wait_on(&mut self, ticket: u64, signal: Option<S>)
         ensures waits { held_by (entry_of ticket self.old) ≡ None → self.new
-            ≡ again ticket (noticed_receiver (waits_on signal) ticket self.old) }
+            ≡ again ticket (with_receiver_notice (waits_on signal) ticket self.old) }
         ensures filled { OnSome (held_by (entry_of ticket self.old)) (self.new ≡ self.old) }
     {
         let Some(place) = self.chain.find(ticket) else {
@@ -230,8 +226,8 @@ impl<T: Drop, S: Drop, A: Allocator + Copy> Entries<T, S, A> {
             return;
         }
         self.chain.move_back(place);
-        self.due = boundary_without(self.due, place, next).or(Some(place));
-        self.waits = boundary_without(self.waits, place, next).or(Some(place));
+        self.due = start_without(self.due, place, next).or(Some(place));
+        self.waits = start_without(self.waits, place, next).or(Some(place));
         self.waiting += 1;
     }
 

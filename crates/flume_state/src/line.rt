@@ -6,7 +6,7 @@ ghost use Rattle.std.specs.Option.{option_map, option_copied};
 ghost use Rattle.std.specs.FinMap.{empty, get, insert, remove};
 ghost use Rattle.flume_state.specs.Messages.{Admits, TakesBack, count};
 ghost use Rattle.flume_state.specs.Notices.{no_longer_due, with_signal};
-ghost use Rattle.flume_state.specs.Sends.{newly_blocked, noticed_send, is_due_send, NoDueSend};
+ghost use Rattle.flume_state.specs.Sends.{newly_blocked, with_send_notice, is_due_send, NoDueSend};
 ghost use Rattle.flume_state.specs.Effects.{with_all_due};
 
 use crate::messages::MessageChain;
@@ -210,7 +210,7 @@ impl<T: Drop, S: Drop, A: Allocator + Copy> Line<T, S, A> {
     #[inline(always)]
     pub fn set_signal(&mut self, ticket: u64, signal: S)
         ensures replaced { self.new ≡ record self.old {
-          sends = noticed_send (with_signal (Some signal)) ticket self.old.sends;
+          sends = with_send_notice (with_signal (Some signal)) ticket self.old.sends;
         } }
     {
         self.sends.set_signal(ticket, signal);
@@ -232,7 +232,7 @@ impl<T: Drop, S: Drop, A: Allocator + Copy> Line<T, S, A> {
     pub fn next_due(&mut self) -> Option<u64>
         ensures was_due { IfSome result (λ t. is_due_send self.old.sends t ≡ true) }
         ensures taken { IfSome result (λ t. self.new ≡ record self.old {
-          sends = noticed_send no_longer_due t self.old.sends;
+          sends = with_send_notice no_longer_due t self.old.sends;
         }) }
         ensures none_due { IfNone result (NoDueSend self.old.sends) }
         ensures unchanged { IfNone result (self.new ≡ self.old) }

@@ -4,7 +4,8 @@ ghost use Rattle.std.specs.Prelude.{OnOk, OnErr, IfOk, IfSome, IfNone, if◌then
 ghost use Rattle.std.specs.Option.{option_map, option_copied};
 ghost use Rattle.std.specs.FinMap.{get, insert, remove};
 ghost use Rattle.flume_state.specs.Notices.{due_now, no_longer_due, with_signal};
-ghost use Rattle.flume_state.specs.Sends.{newly_blocked, accepted_now, changed, noticed_send};
+ghost use Rattle.flume_state.specs.Sends.{newly_blocked, accepted_now, with_send_changed};
+ghost use Rattle.flume_state.specs.Sends.{with_send_notice};
 ghost use Rattle.flume_state.specs.Sends.{is_due_send, NoDueSend};
 ghost use Rattle.flume_state.specs.layout.SendLayout.{due_accepting};
 ghost use Rattle.flume_state.specs.layout.Pairing.{Link, link_at, live_sends, at_message};
@@ -157,7 +158,7 @@ impl<S: Drop, A: Allocator + Copy> Sends<S, A> {
 
     pub(crate) fn set_signal(&mut self, ticket: u64, signal: S)
         ensures live { live_sends self.new
-            ≡ noticed_send (with_signal (Some signal)) ticket (live_sends self.old) }
+            ≡ with_send_notice (with_signal (Some signal)) ticket (live_sends self.old) }
         ensures links { (k : ℕ) → link_at self.new k ≡ link_at self.old k }
     {
         self.chain.facts();
@@ -173,7 +174,7 @@ impl<S: Drop, A: Allocator + Copy> Sends<S, A> {
     #[inline(never)]
     pub(crate) fn accept(&mut self, place: u32)
         ensures live { IfSome (link_at self.old place) (λ l. live_sends self.new
-            ≡ changed (live_sends self.old) l.ticket accepted_now) }
+            ≡ with_send_changed (live_sends self.old) l.ticket accepted_now) }
         ensures link { (k : ℕ) → link_at self.new k ≡ if k == place
             then option_map (accepting true) (link_at self.old k) else link_at self.old k }
     {
@@ -182,7 +183,7 @@ impl<S: Drop, A: Allocator + Copy> Sends<S, A> {
 
     pub(crate) fn mark_due(&mut self, place: u32)
         ensures live { IfSome (link_at self.old place) (λ l. live_sends self.new
-            ≡ noticed_send due_now l.ticket (live_sends self.old)) }
+            ≡ with_send_notice due_now l.ticket (live_sends self.old)) }
         ensures links { (k : ℕ) → link_at self.new k ≡ link_at self.old k }
     {
         self.make_due(place, false);
@@ -190,7 +191,7 @@ impl<S: Drop, A: Allocator + Copy> Sends<S, A> {
 
     fn make_due(&mut self, place: u32, accepts: bool)
         ensures live { IfSome (link_at self.old place) (λ l. live_sends self.new
-            ≡ changed (live_sends self.old) l.ticket (due_accepting accepts)) }
+            ≡ with_send_changed (live_sends self.old) l.ticket (due_accepting accepts)) }
         ensures link { (k : ℕ) → link_at self.new k ≡ if k == place
             then option_map (accepting accepts) (link_at self.old k) else link_at self.old k }
     {
@@ -238,7 +239,7 @@ impl<S: Drop, A: Allocator + Copy> Sends<S, A> {
     pub(crate) fn next_due(&mut self) -> Option<u64>
         ensures was_due { IfSome result (λ t. is_due_send (live_sends self.old) t ≡ true) }
         ensures taken { IfSome result (λ t. live_sends self.new
-            ≡ noticed_send no_longer_due t (live_sends self.old)) }
+            ≡ with_send_notice no_longer_due t (live_sends self.old)) }
         ensures links { (k : ℕ) → link_at self.new k ≡ link_at self.old k }
         ensures none_due { IfNone result (NoDueSend (live_sends self.old)) }
         ensures unchanged { IfNone result (self.new ≡ self.old) }
@@ -254,7 +255,7 @@ impl<S: Drop, A: Allocator + Copy> Sends<S, A> {
     fn take_first_due(&mut self) -> Option<u64>
         ensures was_due { IfSome result (λ t. is_due_send (live_sends self.old) t ≡ true) }
         ensures taken { IfSome result (λ t. live_sends self.new
-            ≡ noticed_send no_longer_due t (live_sends self.old)) }
+            ≡ with_send_notice no_longer_due t (live_sends self.old)) }
         ensures links { (k : ℕ) → link_at self.new k ≡ link_at self.old k }
         ensures none_due { IfNone result (NoDueSend (live_sends self.old)) }
         ensures unchanged { IfNone result (self.new ≡ self.old) }

@@ -38,7 +38,6 @@ fn random_history(
     History { capacity, pairs }
 }
 
-// The slow judge says the same.
 fn check(rt: &impl Abort, alloc: Global, history: &History<Global>) -> Checked {
     let checked = check_history(alloc, history.capacity, &history.pairs);
     let judged = judge(rt, alloc, history.capacity, &history.pairs);

@@ -81,7 +81,7 @@ impl RandomReplies {
             Reply::Gone { closed, filled } => self.other_gone(*closed, *filled),
             Reply::Drained(list) => Reply::Drained(self.other_list(rt, alloc, list)),
             Reply::Number(number) => Reply::Number(self.other_count(*number)),
-            Reply::Truth(truth) => Reply::Truth(!*truth),
+            Reply::Flag(truth) => Reply::Flag(!*truth),
             Reply::Capacity(capacity) => Reply::Capacity(self.other_capacity(*capacity)),
             _ => self.other_plain(reply),
         }

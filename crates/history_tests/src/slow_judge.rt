@@ -35,7 +35,6 @@ pub(crate) struct SlowJudge {
     // How many of the line's front are queued; the rest is blocked.
     pub(crate) queue_length: usize,
     pub(crate) parked: VecDeque<Parked>,
-    // The tickets of sends that may still ask.
     pub(crate) live: VecDeque<u64>,
     next: u64,
     pub(crate) senders: usize,
@@ -106,7 +105,6 @@ impl SlowJudge {
         self.queue_length < self.capacity.unwrap_or(usize::MAX)
     }
 
-    // Whether a receiver of this ticket, which doesn't block, is parked.
     fn tries_again(&self, ticket: u64) -> bool {
         match self.parked.get(self.place_of(ticket)) {
             Some(receiver) => !matches!(receiver.kind, Kind::Block),
@@ -114,7 +112,6 @@ impl SlowJudge {
         }
     }
 
-    // Behind all, if no receiver has this ticket.
     fn place_of(&self, ticket: u64) -> usize {
         for (place, receiver) in self.parked.iter().enumerate() {
             if receiver.ticket == ticket {
@@ -210,7 +207,6 @@ impl SlowJudge {
         }
     }
 
-    // Behind all, if no message is blocked under this ticket.
     fn place_of_blocked(&self, ticket: u64) -> usize {
         for (place, offer) in self.line.iter().enumerate() {
             if place >= self.queue_length && offer.ticket == Some(ticket) {
@@ -220,7 +216,6 @@ impl SlowJudge {
         self.line.len()
     }
 
-    // How many of the line fit in the queue.
     pub(crate) fn most_queued(&self) -> usize {
         self.line.len().min(self.capacity.unwrap_or(usize::MAX))
     }

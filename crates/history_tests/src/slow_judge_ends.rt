@@ -23,12 +23,12 @@ impl SlowJudge {
             Step::DropSender => drop_end(&mut self.senders),
             Step::DropReceiver => drop_end(&mut self.receivers),
             Step::Len => Reply::Number(self.queue_length),
-            Step::IsEmpty => Reply::Truth(self.queue_length == 0),
-            Step::IsFull => Reply::Truth(self.queue_length >= self.capacity.unwrap_or(usize::MAX)),
+            Step::IsEmpty => Reply::Flag(self.queue_length == 0),
+            Step::IsFull => Reply::Flag(self.queue_length >= self.capacity.unwrap_or(usize::MAX)),
             Step::Capacity => Reply::Capacity(self.capacity),
             Step::SenderCount => Reply::Number(self.senders),
             Step::ReceiverCount => Reply::Number(self.receivers),
-            _ => Reply::Truth(!was_open),
+            _ => Reply::Flag(!was_open),
         };
         if was_open && !self.is_open() {
             self.wake_all();

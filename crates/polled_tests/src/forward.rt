@@ -31,7 +31,6 @@ impl Stream for Numbers {
     }
 }
 
-// Forwards all numbers to a sink that owns its sender. Whether all were sent.
 #[derive(Drop)]
 struct ForwardAll<R: TestRuntime> {
     rt: R,
@@ -51,7 +50,6 @@ impl<R: TestRuntime> Work for ForwardAll<R> {
     }
 }
 
-// A stream gives all that a thread forwards.
 fn receive_all<R: TestRuntime>(rt: R, alloc: Global, capacity: usize) {
     let (tx, rx) = channel(rt, alloc, Some(capacity));
     let forwarding = spawn(&rt, ForwardAll { rt, tx });

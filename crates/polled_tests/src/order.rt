@@ -13,7 +13,6 @@ use test_support::capacities::{KeepChangingCapacity, wait_for_capacity_change};
 
 const ALL: u64 = 10_000;
 
-// Receives all numbers. Whether each came in order.
 #[derive(Drop)]
 struct ReceiveInOrder<'a, R: Waits> {
     numbers: Numbers<'a, R>,
@@ -62,7 +61,6 @@ fn futures_and_a_stream_receive_in_the_order_receive_from_thread(rt: HostRuntime
     watchdog.end(&rt);
 }
 
-// Sends all numbers, each by a future of its own. Whether each was taken.
 #[derive(Drop)]
 struct SendInOrder<'a, R: Waits> {
     tx: &'a Sender<u64, R>,

@@ -9,7 +9,7 @@ use Rattle.flume_model.specs.declared.step.Reply.TheVariants.{Pending}
 use Rattle.flume_model.specs.Log.{Log, Opening, Offer, is_ticket, change}
 use Rattle.flume_model.specs.Counts.{is_over}
 use Rattle.flume_model.specs.Offers.{offers, offers_made, kept, withdrawn, hand_outs}
-use Rattle.flume_model.specs.Line.{line, boundary, blocked, next_ticket}
+use Rattle.flume_model.specs.Line.{line, queue_len, blocked, next_ticket}
 use Rattle.flume_model.specs.Channel.{channel, has_ticket, IsBlocked}
 use Rattle.flume_model.specs.Replies.{IsRun}
 use Rattle.flume_model.specs.Laws.{Rising}
@@ -70,5 +70,5 @@ module _ {T A : Type 0} where
       All-filter (λ offer. not (withdrawn log offer)) (IsOfTicket t m) (offers log) of_offers in
       let of_line : All (IsOfTicket t m) (line log) =
       all_or_none (IsOfTicket t m) (is_over log) _ (All-drop (IsOfTicket t m) (hand_outs log) (kept log) of_kept) in
-      let of_blocked : All (IsOfTicket t m) (blocked o log) = All-drop (IsOfTicket t m) (boundary o log) (line log) of_line in
+      let of_blocked : All (IsOfTicket t m) (blocked o log) = All-drop (IsOfTicket t m) (queue_len o log) (line log) of_line in
       All-at_seam (IsOfTicket t m) h.1 _ h.2 (subst (All (IsOfTicket t m)) h.3 of_blocked) refl

@@ -12,7 +12,7 @@ use flume_calls::calls::{
 use flume_calls::due::Bell;
 use flume_calls::gates::{RecvGate, SendGate, recv_over, send_over};
 use flume_calls::locked::Locked;
-use flume_calls::single::Single;
+use flume_calls::single::SingleStep;
 use flume_core::error::{RecvTimeoutError, SendTimeoutError};
 use flume_model::step::Kind;
 use std::alloc::Allocator;
@@ -65,7 +65,7 @@ impl<T: Drop, A: Allocator + Copy> LocalGate<T, A> {
         match self.other.take() {
             None => return true,
             Some(Other::DropSender) => {
-                self.locked.make(Single::DropSender, &mut self.bell);
+                self.locked.make(SingleStep::DropSender, &mut self.bell);
             }
             Some(Other::TryRecv) => {
                 if let RecvNext::Done(Ok(message)) = self
@@ -154,7 +154,7 @@ impl<T: Drop, A: Allocator + Copy> RecvGate<T> for LocalGate<T, A> {
 
     ghost waits = { λ old new answer. Others A old.locked new.locked };
 
-    ghost is_ready = { λ _. ⊤ };
+    ghost can_park = { λ _. ⊤ };
 
     fn first(&mut self) -> RecvNext<T> {
         self.locked.make(FirstReceive, &mut self.bell)

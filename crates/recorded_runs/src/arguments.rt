@@ -2,17 +2,16 @@
 
 /// How many recordings, threads, and calls in each recording.
 #[derive(Clone, Copy, Drop)]
-pub struct Arguments {
-    pub recordings: u64,
-    pub threads: u64,
-    pub calls: u64,
+pub(crate) struct Arguments {
+    pub(crate) recordings: u64,
+    pub(crate) threads: u64,
+    pub(crate) calls: u64,
     /// How many configurations a search enters at most.
-    pub limit: u64,
+    pub(crate) limit: u64,
 }
 
-/// What the program is asked for.
 #[derive(Clone, Copy, Drop)]
-pub enum Request {
+pub(crate) enum Request {
     Runs(Arguments),
     Help,
     Wrong,
@@ -20,7 +19,7 @@ pub enum Request {
 
 impl Arguments {
     /// Reads `[RECORDINGS [THREADS [CALLS [LIMIT]]]]`.
-    pub fn read(words: &[String]) -> Request {
+    pub(crate) fn read(words: &[String]) -> Request {
         if let [word] = words {
             if word.as_str() == "--help" || word.as_str() == "-h" {
                 return Request::Help;

@@ -13,7 +13,7 @@ use std::time::Duration;
 /// A thread, with its first ends, which its futures borrow. It blocks only in a send without a
 /// receiver, or in a receive without a sender: other threads' drops of their ends free it.
 #[derive(Drop)]
-pub struct Caller<'e, 'h, R: Waits> {
+pub(crate) struct Caller<'e, 'h, R: Waits> {
     recorder: Recorder<u64>,
     random: Random,
     message: u64,
@@ -27,7 +27,7 @@ pub struct Caller<'e, 'h, R: Waits> {
 
 impl<'e, 'h, R: Waits> Caller<'e, 'h, R> {
     /// A thread with these first ends. Its first message is the number after this one.
-    pub fn new(
+    pub(crate) fn new(
         alloc: Global,
         (recorder, random, message): (Recorder<u64>, Random, u64),
         sender: &'e Option<TestSender<'h, R>>,
@@ -47,7 +47,7 @@ impl<'e, 'h, R: Waits> Caller<'e, 'h, R> {
     }
 
     /// Makes this many calls, and drops its futures and all ends but the first.
-    pub fn run(mut self, task: &MockTask, calls: u64) -> Recorder<u64> {
+    pub(crate) fn run(mut self, task: &MockTask, calls: u64) -> Recorder<u64> {
         for _ in 0..calls {
             self.pause();
             self.random_call(task);

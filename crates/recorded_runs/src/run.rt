@@ -18,16 +18,14 @@ use test_support::ends::open;
 
 const REFUSED: u64 = 12;
 
-/// What a run recorded.
 #[derive(Drop)]
-pub struct Run {
-    pub capacity: Option<usize>,
-    pub events: Vec<Event<u64>>,
+pub(crate) struct Run {
+    pub(crate) capacity: Option<usize>,
+    pub(crate) events: Vec<Event<u64>>,
 }
 
-/// Why there is no recording.
 #[derive(Clone, Copy, Drop)]
-pub enum Fault {
+pub(crate) enum Fault {
     NoMemory,
     NoThread,
     NoRecording(RecordingError),
@@ -61,9 +59,8 @@ impl From<RecordingError> for Fault {
     }
 }
 
-/// What a search for an explanation came to.
 #[derive(Clone, Copy, Drop)]
-pub struct Verdict(pub Checked);
+pub(crate) struct Verdict(pub Checked);
 
 impl fmt::Display for Verdict {
     fn fmt<W: fmt::Write>(&self, f: &mut fmt::Formatter<W>) -> fmt::Result {
@@ -84,7 +81,7 @@ impl fmt::Display for Verdict {
 }
 
 /// Judges a run by a search that enters at most this many configurations.
-pub fn judge(alloc: Global, run: &Run, limit: u64) -> Checked {
+pub(crate) fn judge(alloc: Global, run: &Run, limit: u64) -> Checked {
     let limit = usize::try_from(limit).unwrap_or(usize::MAX);
     check_calls(alloc, run.capacity, run.events.as_slice(), limit)
 }
@@ -151,8 +148,7 @@ fn run_threads<'h, R: Runtime + RandomSource>(
 }
 
 impl Run {
-    /// Makes the run of this number, and records it.
-    pub fn make<R: Runtime + RandomSource>(
+    pub(crate) fn make<R: Runtime + RandomSource>(
         rt: R,
         arguments: Arguments,
         number: u64,

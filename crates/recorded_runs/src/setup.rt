@@ -8,20 +8,18 @@ use flume_recorder::Recorder;
 use futures::test::MockTask;
 use std::alloc::Global;
 
-/// What a thread of a run begins with.
 #[derive(Drop)]
-pub struct CallerSetup<'h, R: Waits> {
-    pub recorder: Recorder<u64>,
-    pub sender: Option<TestSender<'h, R>>,
-    pub receiver: Option<TestReceiver<'h, R>>,
-    pub random: Random,
-    pub calls_to_make: u64,
-    pub message: u64,
+pub(crate) struct CallerSetup<'h, R: Waits> {
+    pub(crate) recorder: Recorder<u64>,
+    pub(crate) sender: Option<TestSender<'h, R>>,
+    pub(crate) receiver: Option<TestReceiver<'h, R>>,
+    pub(crate) random: Random,
+    pub(crate) calls_to_make: u64,
+    pub(crate) message: u64,
 }
 
 impl<R: Waits> CallerSetup<'_, R> {
-    /// Makes the calls, and drops the first ends.
-    pub fn serve(self, alloc: Global, task: &MockTask) -> Recorder<u64> {
+    pub(crate) fn serve(self, alloc: Global, task: &MockTask) -> Recorder<u64> {
         let CallerSetup {
             recorder,
             sender,

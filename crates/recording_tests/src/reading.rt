@@ -96,7 +96,6 @@ fn is_wrong(rt: &impl Abort, alloc: Global, text: &str, number: usize, reason: F
     assert_eq!(rt; (line, fault), (number, reason), "{text}");
 }
 
-// How many answers are a number, and how many a capacity.
 fn numbers_in(events: &[Event<u64>]) -> (usize, usize) {
     let (mut numbers, mut capacities) = (0usize, 0usize);
     for event in events {

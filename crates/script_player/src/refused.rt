@@ -4,7 +4,6 @@ use crate::script::{Refused, ScriptText};
 use std::alloc::Global;
 use std::io;
 
-// More growths than a call has.
 const MOST: u64 = 100;
 
 #[derive(Drop)]

@@ -1,7 +1,6 @@
 //! Random scripts: right ones, and what a few changes make of them.
 use std::alloc::{AllocError, Global};
 
-// Bars separate the texts.
 const NUMBERED: &str = "try_send |send |poll_send |withdraw_send |poll |withdraw |set_capacity ";
 
 const PLAIN: &str = "try_recv|recv block|recv plain|recv stream|recv arm|drain|clone_sender|\
@@ -11,7 +10,6 @@ const PLAIN: &str = "try_recv|recv block|recv plain|recv stream|recv arm|drain|c
 const NUMBERS: &str = "0|1|2|3|4|10|007|9223372036854775808|18446744073709551615|\
     00018446744073709551615";
 
-// Each may make a line wrong.
 const PIECES: &str = "\n|\r|\r\n|\n\r| |  |\t|\0|\u{b}|\u{85}|\u{660}|\u{2028}|+|-|_|.|0|9|a|e|S|s|\
     18446744073709551615|18446744073709551616|99999999999999999999|\
     340282366920938463463374607431768211456|unbounded\n|bounded 1\n|recv |len\n|send 5\n| block";

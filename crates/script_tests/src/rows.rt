@@ -4,7 +4,6 @@
 pub(crate) type Row = (&'static [u8], u64);
 
 pub(crate) const ROWS: &[Row] = &[
-    // Lines and their ends.
     (b"", 1),
     (b"\n", 1),
     (b"\r\n", 1),
@@ -22,7 +21,6 @@ pub(crate) const ROWS: &[Row] = &[
     (b"unbounded\nlen\0\n", 2),
     (b"\0", 1),
     (b"unbounded\nlen\nlen\nle\nlen\nl\n", 4),
-    // The first line.
     (b"bounded 0\n", 0),
     (b"bounded 18446744073709551615\n", 0),
     (b"bounded 18446744073709551616\n", 1),
@@ -36,7 +34,6 @@ pub(crate) const ROWS: &[Row] = &[
     (b"len\n", 1),
     (b"unbounded\nunbounded\n", 2),
     (b"unbounded\nbounded 1\n", 2),
-    // Numbers.
     (b"unbounded\nsend 0\n", 0),
     (b"unbounded\nsend 007\n", 0),
     (b"unbounded\nsend 18446744073709551615\n", 0),
@@ -64,7 +61,6 @@ pub(crate) const ROWS: &[Row] = &[
     (b"unbounded\nsend 1\xff\n", 2),
     (b"unbounded\nsend /\n", 2),
     (b"unbounded\nsend :\n", 2),
-    // Words.
     (b"unbounded\nsend\n", 2),
     (b"unbounded\nsend \n", 2),
     (b"unbounded\nsend  5\n", 2),
@@ -82,7 +78,6 @@ pub(crate) const ROWS: &[Row] = &[
     (b"unbounded\nset_capacity\n", 2),
     (b"unbounded\nset_capacity none\n", 2),
     (b"bounded 1\nset_capacity 18446744073709551616\n", 2),
-    // Each step.
     (
         b"unbounded\ntry_send 1\nsend 2\npoll_send 1\nwithdraw_send 1\n",
         0,

@@ -12,7 +12,6 @@ use test_support::selections::Winner;
 // are queued in its own channel.
 type MapperResult = (Result<u64, RecvError>, Result<(), TrySendError<u64>>, usize);
 
-// The mapper of the second arm uses both channels.
 fn look_around<R: Waits>(
     lost: (&Sender<u64, R>, &Receiver<u64, R>),
     rx: &Receiver<u64, R>,

@@ -41,7 +41,6 @@ const BEFORE_IT_BEGINS: TimedWait = TimedWait {
     readings: 1,
 };
 
-// The time is up as the wake comes, which it leaves.
 const TOO_LATE: TimedWait = TimedWait {
     left: HOUR,
     fires_at: 1,
@@ -63,7 +62,6 @@ const AS_IT_FALLS_ASLEEP: TimedWait = TimedWait {
     readings: 4,
 };
 
-// Its sleep has ended by itself.
 const AS_IT_WAKES_UP: TimedWait = TimedWait {
     left: 1,
     fires_at: 3,
@@ -71,7 +69,6 @@ const AS_IT_WAKES_UP: TimedWait = TimedWait {
     readings: 4,
 };
 
-// It takes the wake before it looks at the time.
 const AS_THE_TIME_IS_UP: TimedWait = TimedWait {
     left: 1,
     fires_at: 3,
@@ -169,10 +166,8 @@ fn wait_once<R: Wait + Abort>(rt: &R, parker: &Parker, timed: TimedWait, fires: 
     is(rt, readings.into_inner(), timed.readings);
 }
 
-// How often a parker looks before it sleeps.
 const CHECKS: &[u32] = &[0, 100];
 
-// How many wakes come at once.
 const FIRES: &[u32] = &[1, 2];
 
 #[test]

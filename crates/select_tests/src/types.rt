@@ -11,7 +11,7 @@ use test_support::work::{SendOne, Work};
 #[derive(Drop)]
 enum Either {
     Number(Result<u64, RecvError>),
-    Truth(Result<bool, RecvError>),
+    Flag(Result<bool, RecvError>),
 }
 
 #[derive(Drop)]
@@ -33,14 +33,14 @@ fn receive_either<R: Waits>(
     truths: &Receiver<bool, R>,
 ) -> Result<Either, SelectError> {
     let first = Selector::new().recv(numbers, Either::Number);
-    last_recv(first, truths, Either::Truth, HowLong::Endless)
+    last_recv(first, truths, Either::Flag, HowLong::Endless)
 }
 
 // Whether a selection receives one message, and the other is still there, once.
 fn one_of_each<R: Waits>(numbers: &Receiver<u64, R>, truths: &Receiver<bool, R>) -> bool {
     let both = match receive_either(numbers, truths) {
         Ok(Either::Number(number)) => (number, truths.recv()),
-        Ok(Either::Truth(truth)) => (numbers.recv(), truth),
+        Ok(Either::Flag(truth)) => (numbers.recv(), truth),
         Err(_) => return false,
     };
     both.0 == Ok(7) && both.1 == Ok(true) && numbers.recv().is_err() && truths.recv().is_err()

@@ -28,11 +28,11 @@ impl<T: Drop, R: Waits, A: Allocator + Copy> Shared<T, R, A> {
         call: &mut PolledReceive,
         task: &Task,
         cx: &mut Context<'_>,
-        mut into: Vec<T, A>,
+        mut buffer: Vec<T, A>,
         more: usize,
     ) -> (Vec<T, A>, Option<Result<usize, RecvError>>)
-        requires room { vec_len into < vec_capacity into }
-        ensures polled { HasPolledMany A (more + 1) into.items call.old result.0.items call.new
+        requires room { vec_len buffer < vec_capacity buffer }
+        ensures polled { HasPolledMany A (more + 1) buffer.items call.old result.0.items call.new
             result.1 }
         ensures registered { result.1 ≡ None → Covers cx.new (λ s. s ≡ task.now.source.id) }
         ensures kept { Keeps cx.old cx.new }
@@ -41,13 +41,13 @@ impl<T: Drop, R: Waits, A: Allocator + Copy> Shared<T, R, A> {
         let locked = &mut *guard;
         match self.poll_locked(locked, call, task, cx) {
             Some(Ok(message)) => {
-                into.push_reserved(message);
-                let turn = MoreReceives { into, most: more };
-                let (into, taken) = locked.make(turn, &mut SignalBell { rt: self.rt });
-                (into, Some(Ok(taken + 1)))
+                buffer.push_reserved(message);
+                let turn = MoreReceives { buffer, most: more };
+                let (buffer, taken) = locked.make(turn, &mut SignalBell { rt: self.rt });
+                (buffer, Some(Ok(taken + 1)))
             }
-            Some(Err(error)) => (into, Some(Err(error))),
-            None => (into, None),
+            Some(Err(error)) => (buffer, Some(Err(error))),
+            None => (buffer, None),
         }
     }
 

@@ -65,11 +65,11 @@ impl<'a, T: Drop, R: Waits, A: Allocator + Copy> RecvFut<'a, T, R, A> {
     pub(crate) fn poll_receives(
         &mut self,
         cx: &mut Context<'_>,
-        into: Vec<T, A>,
+        buffer: Vec<T, A>,
         more: usize,
     ) -> (Vec<T, A>, Option<Result<usize, RecvError>>)
-        requires room { vec_len into < vec_capacity into }
-        ensures polled { HasPolledMany A (more + 1) into.items self.old.call result.0.items
+        requires room { vec_len buffer < vec_capacity buffer }
+        ensures polled { HasPolledMany A (more + 1) buffer.items self.old.call result.0.items
             self.new.call result.1 }
         ensures receiver { self.new.receiver ≡ self.old.receiver }
         ensures registered { result.1 ≡ None
@@ -77,26 +77,26 @@ impl<'a, T: Drop, R: Waits, A: Allocator + Copy> RecvFut<'a, T, R, A> {
         ensures kept { Keeps cx.old cx.new }
     {
         let shared = self.receiver.get().shared();
-        shared.poll_receives(&mut self.call, &self.task, cx, into, more)
+        shared.poll_receives(&mut self.call, &self.task, cx, buffer, more)
     }
 
     /// Whether all senders, or all receivers, have been dropped.
     pub fn is_disconnected(&self) -> bool
-        ensures made { HasReplied {T = T} {A = A} Step.IsDisconnected (Reply.Truth result) }
+        ensures made { HasReplied {T = T} {A = A} Step.IsDisconnected (Reply.Flag result) }
     {
         self.receiver.get().is_disconnected()
     }
 
     /// Whether no message is queued.
     pub fn is_empty(&self) -> bool
-        ensures made { HasReplied {T = T} {A = A} Step.IsEmpty (Reply.Truth result) }
+        ensures made { HasReplied {T = T} {A = A} Step.IsEmpty (Reply.Flag result) }
     {
         self.receiver.get().is_empty()
     }
 
     /// Whether a bounded channel's queue is at or past its capacity.
     pub fn is_full(&self) -> bool
-        ensures made { HasReplied {T = T} {A = A} Step.IsFull (Reply.Truth result) }
+        ensures made { HasReplied {T = T} {A = A} Step.IsFull (Reply.Flag result) }
     {
         self.receiver.get().is_full()
     }

@@ -100,21 +100,21 @@ impl<'a, T: Drop, R: Waits, A: Allocator + Copy> SendFut<'a, T, R, A> {
 
     /// Whether all receivers, or all senders, have been dropped.
     pub fn is_disconnected(&self) -> bool
-        ensures made { HasReplied {T = T} {A = A} Step.IsDisconnected (Reply.Truth result) }
+        ensures made { HasReplied {T = T} {A = A} Step.IsDisconnected (Reply.Flag result) }
     {
         self.sender.get().is_disconnected()
     }
 
     /// Whether no message is queued.
     pub fn is_empty(&self) -> bool
-        ensures made { HasReplied {T = T} {A = A} Step.IsEmpty (Reply.Truth result) }
+        ensures made { HasReplied {T = T} {A = A} Step.IsEmpty (Reply.Flag result) }
     {
         self.sender.get().is_empty()
     }
 
     /// Whether a bounded channel's queue is at or past its capacity.
     pub fn is_full(&self) -> bool
-        ensures made { HasReplied {T = T} {A = A} Step.IsFull (Reply.Truth result) }
+        ensures made { HasReplied {T = T} {A = A} Step.IsFull (Reply.Flag result) }
     {
         self.sender.get().is_full()
     }
@@ -135,7 +135,7 @@ impl<'a, T: Drop, R: Waits, A: Allocator + Copy> SendFut<'a, T, R, A> {
 
     /// Whether the channel is disconnected, not whether this was ready.
     pub fn is_terminated(&self) -> bool
-        ensures made { HasReplied {T = T} {A = A} Step.IsDisconnected (Reply.Truth result) }
+        ensures made { HasReplied {T = T} {A = A} Step.IsDisconnected (Reply.Flag result) }
     {
         self.is_disconnected()
     }
@@ -161,7 +161,7 @@ impl<T: Drop, R: Waits, A: Allocator + Copy> Future for SendFut<'_, T, R, A> {
         ensures registered { OnPending result
             (Covers cx.new (λ source. source ≡ self.new.task.source.id)) }
         ensures kept { Keeps cx.old cx.new }
-        ensures after_ready { self.old.send ≡ Finished → result ≡ Poll.Ready (Ok tt) }
+        ensures ready_if_finished { self.old.send ≡ Finished → result ≡ Poll.Ready (Ok tt) }
         ensures polled { self.old.send ≢ Finished
             → HasPolledSend A self.old.send self.new.send (answer_of result) }
         ensures finished { IfReady result (λ _. self.new.send ≡ Finished) }

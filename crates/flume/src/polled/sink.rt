@@ -65,7 +65,7 @@ impl<'a, T: Drop, R: Waits, A: Allocator + Copy> SendSink<'a, T, R, A> {
     }
 
     /// Sends these messages in order, behind one that the sink keeps. `Ok`: all are sent, and the
-    /// list has lost its room. Pending: the sink keeps the next message. An error has the first that
+    /// list has lost its room. Pending: the sink keeps the next message. An error has the first one
     /// wasn't sent, and the sink keeps none. Those behind it stay in the list.
     /// ```
     /// let (tx, rx) = flume::on(rt).bounded(1)?;
@@ -116,21 +116,21 @@ impl<'a, T: Drop, R: Waits, A: Allocator + Copy> SendSink<'a, T, R, A> {
 
     /// Whether all receivers, or all senders, have been dropped.
     pub fn is_disconnected(&self) -> bool
-        ensures made { HasReplied {T = T} {A = A} Step.IsDisconnected (Reply.Truth result) }
+        ensures made { HasReplied {T = T} {A = A} Step.IsDisconnected (Reply.Flag result) }
     {
         self.future.is_disconnected()
     }
 
     /// Whether no message is queued.
     pub fn is_empty(&self) -> bool
-        ensures made { HasReplied {T = T} {A = A} Step.IsEmpty (Reply.Truth result) }
+        ensures made { HasReplied {T = T} {A = A} Step.IsEmpty (Reply.Flag result) }
     {
         self.future.is_empty()
     }
 
     /// Whether a bounded channel's queue is at or past its capacity.
     pub fn is_full(&self) -> bool
-        ensures made { HasReplied {T = T} {A = A} Step.IsFull (Reply.Truth result) }
+        ensures made { HasReplied {T = T} {A = A} Step.IsFull (Reply.Flag result) }
     {
         self.future.is_full()
     }

@@ -85,7 +85,7 @@ impl<'a, T: Drop, R: Waits, A: Allocator + Copy> RecvStream<'a, T, R, A> {
         if self.fault { Err(NoMemory) } else { Ok(()) }
     }
 
-    /// As `Receiver::recv_many`, polled. `NoMemory`: `into` couldn't grow by one message, or there
+    /// As `Receiver::recv_many`, polled. `NoMemory`: `buffer` can't grow by one message, or there
     /// was none to wait. If it can't grow further, it takes what there is room for.
     /// ```
     /// let (tx, rx) = flume::on(rt).unbounded()?;
@@ -101,22 +101,22 @@ impl<'a, T: Drop, R: Waits, A: Allocator + Copy> RecvStream<'a, T, R, A> {
     pub fn poll_recv_many(
         &mut self,
         cx: &mut Context<'_>,
-        into: &mut Vec<T, A>,
+        buffer: &mut Vec<T, A>,
         most: usize,
     ) -> Poll<Result<usize, RecvError>>
         ensures appended { IfReady result (λ answer.
-            IfOk answer (Appends most into.old.items into.new.items)) }
+            IfOk answer (Appends most buffer.old.items buffer.new.items)) }
         ensures unchanged { IfReady result (λ answer.
-            OnErr answer (into.new.items ≡ into.old.items)) }
-        ensures waits { OnPending result (into.new.items ≡ into.old.items) }
+            OnErr answer (buffer.new.items ≡ buffer.old.items)) }
+        ensures waits { OnPending result (buffer.new.items ≡ buffer.old.items) }
         ensures registered { OnPending result
             (Covers cx.new (λ source. source ≡ self.new.next.task.source.id)) }
         ensures kept { Keeps cx.old cx.new }
         ensures none { most ≡ 0
             → (result ≡ Poll.Ready (Ok 0)) × (self.new.next ≡ self.old.next) }
         ensures polled { 0 < most → ((result ≡ Poll.Ready (Err RecvError.NoMemory))
-            × (vec_capacity into.old < vec_len into.old + 1))
-            ⊎ HasPolledMany A most into.old.items self.old.next.call into.new.items
+            × (vec_capacity buffer.old < vec_len buffer.old + 1))
+            ⊎ HasPolledMany A most buffer.old.items self.old.next.call buffer.new.items
             self.new.next.call (answer_of result) }
         ensures call { 0 < most
             → LeavesCall self.old.next.call self.new.next.call (answer_of result) }
@@ -127,13 +127,13 @@ impl<'a, T: Drop, R: Waits, A: Allocator + Copy> RecvStream<'a, T, R, A> {
         if most == 0 {
             return Poll::Ready(Ok(0));
         }
-        if into.try_reserve(1).is_err() {
+        if buffer.try_reserve(1).is_err() {
             self.fault = true;
             return Poll::Ready(Err(RecvError::NoMemory));
         }
-        let list = replace(into, Vec::new(self.next.receiver.get().shared().alloc));
+        let list = replace(buffer, Vec::new(self.next.receiver.get().shared().alloc));
         let (list, answer) = self.next.poll_receives(cx, list, most - 1);
-        *into = list;
+        *buffer = list;
         let Some(answer) = answer else {
             return Poll::Pending;
         };
@@ -159,21 +159,21 @@ impl<'a, T: Drop, R: Waits, A: Allocator + Copy> RecvStream<'a, T, R, A> {
 
     /// Whether all senders, or all receivers, have been dropped.
     pub fn is_disconnected(&self) -> bool
-        ensures made { HasReplied {T = T} {A = A} Step.IsDisconnected (Reply.Truth result) }
+        ensures made { HasReplied {T = T} {A = A} Step.IsDisconnected (Reply.Flag result) }
     {
         self.next.is_disconnected()
     }
 
     /// Whether no message is queued.
     pub fn is_empty(&self) -> bool
-        ensures made { HasReplied {T = T} {A = A} Step.IsEmpty (Reply.Truth result) }
+        ensures made { HasReplied {T = T} {A = A} Step.IsEmpty (Reply.Flag result) }
     {
         self.next.is_empty()
     }
 
     /// Whether a bounded channel's queue is at or past its capacity.
     pub fn is_full(&self) -> bool
-        ensures made { HasReplied {T = T} {A = A} Step.IsFull (Reply.Truth result) }
+        ensures made { HasReplied {T = T} {A = A} Step.IsFull (Reply.Flag result) }
     {
         self.next.is_full()
     }

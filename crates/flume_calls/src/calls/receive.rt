@@ -2,7 +2,8 @@
 ghost use Rattle.std.specs.Prelude.{◌≡◌};
 ghost use Rattle.flume_calls.specs.Turns.{Turned};
 ghost use Rattle.flume_calls.specs.Batches.{by_step};
-ghost use Rattle.flume_calls.specs.ReceiveTurns.{IsFirst, IsParking, IsAgain, IsntRefused};
+ghost use Rattle.flume_calls.specs.ReceiveTurns.{IsFirstAnswer, IsParkingAnswer, IsParkedAnswer};
+ghost use Rattle.flume_calls.specs.ReceiveTurns.{HadMemory};
 ghost use Rattle.flume_calls.specs.ReceiveTurns.{after_try_recv, after_recv, after_parked_receive};
 ghost use Rattle.flume_calls.specs.ReceiveTurns.{step_of_parked_receive};
 ghost use Rattle.flume_calls.specs.ReceiveOutcomes.{FirstReceiveOutcome, ParkReceiveOutcome};
@@ -60,8 +61,8 @@ impl RecvCall {
     #[inline(always)]
     pub fn first<T: Drop, S: Drop, A: Allocator + Copy>(chan: &mut Chan<T, S, A>) -> RecvNext<T>
         ensures turn { Turned {A = A} Step.TryRecv after_try_recv chan.old chan.new result }
-        ensures answers { IsFirst result }
-        ensures not_refused { IsntRefused result }
+        ensures answers { IsFirstAnswer result }
+        ensures not_refused { HadMemory result }
         ensures outcome { FirstReceiveOutcome chan.old chan.new result }
     {
         FirstReceive.apply(chan)
@@ -79,7 +80,7 @@ impl RecvCall {
         chan: &mut Chan<T, S, A>,
     ) -> RecvNext<T>
         ensures turn { Turned {A = A} (Step.Recv kind) after_recv chan.old chan.new result }
-        ensures answers { IsParking result }
+        ensures answers { IsParkingAnswer result }
         ensures outcome { ParkReceiveOutcome kind signal chan.old chan.new result }
     {
         ParkReceive { kind, signal }.apply(chan)
@@ -103,8 +104,8 @@ impl RecvCall {
     ) -> RecvNext<T>
         ensures turn { Turned {A = A} (step_of_parked_receive self last)
             (after_parked_receive self last) chan.old chan.new result }
-        ensures answers { IsAgain self last result }
-        ensures not_refused { IsntRefused result }
+        ensures answers { IsParkedAnswer self last result }
+        ensures not_refused { HadMemory result }
         ensures outcome { AgainReceiveOutcome self last signal chan.old chan.new result }
     {
         let call = self;
@@ -126,7 +127,7 @@ impl<T: Drop, S: Drop, A: Allocator + Copy> Turn<T, S, A> for FirstReceive {
 
     ghost leads = { λ _ old new next does. by_step does.0 };
 
-    ghost answers = { λ _ next. IsFirst next × IsntRefused next };
+    ghost answers = { λ _ next. IsFirstAnswer next × HadMemory next };
 
     #[inline(always)]
     fn apply(self, chan: &mut Chan<T, S, A>) -> RecvNext<T> {
@@ -156,7 +157,7 @@ impl<T: Drop, S: Drop, A: Allocator + Copy> Turn<T, S, A> for ParkReceive<S> {
 
     ghost leads = { λ _ old new next does. by_step does.0 };
 
-    ghost answers = { λ _. IsParking };
+    ghost answers = { λ _. IsParkingAnswer };
 
     fn apply(self, chan: &mut Chan<T, S, A>) -> RecvNext<T> {
         match chan.recv(self.kind, self.signal) {
@@ -187,7 +188,7 @@ impl<T: Drop, S: Drop, A: Allocator + Copy> Turn<T, S, A> for AgainReceive<S> {
 
     ghost leads = { λ _ old new next does. by_step does.0 };
 
-    ghost answers = { λ turn next. IsAgain turn.call turn.last next × IsntRefused next };
+    ghost answers = { λ turn next. IsParkedAnswer turn.call turn.last next × HadMemory next };
 
     // `NoTicket` comes only if the call parked in another channel.
     fn apply(self, chan: &mut Chan<T, S, A>) -> RecvNext<T> {

@@ -3,7 +3,8 @@ ghost use Rattle.std.specs.Prelude.{◌≡◌, ◌↔◌, IsTrue};
 ghost use Rattle.flume_core.specs.Waiting.{IsHeldBack};
 ghost use Rattle.flume_calls.specs.Turns.{Turned};
 ghost use Rattle.flume_calls.specs.Batches.{by_step};
-ghost use Rattle.flume_calls.specs.SendTurns.{IsFirst, IsParking, IsAgain, step_of_parked_send};
+ghost use Rattle.flume_calls.specs.SendTurns.{IsFirstAnswer, IsParkingAnswer, IsParkedAnswer};
+ghost use Rattle.flume_calls.specs.SendTurns.{step_of_parked_send};
 ghost use Rattle.flume_calls.specs.SendTurns.{after_try_send, after_send, after_parked_send};
 ghost use Rattle.flume_calls.specs.SendOutcomes.{FirstSendOutcome, ParkSendOutcome};
 ghost use Rattle.flume_calls.specs.SendOutcomes.{AgainSendOutcome};
@@ -61,7 +62,7 @@ impl SendCall {
     ) -> SendNext<T>
         ensures turn { Turned {A = A} (Step.TrySend message) after_try_send
             chan.old chan.new result }
-        ensures answers { IsFirst message result }
+        ensures answers { IsFirstAnswer message result }
         ensures outcome { FirstSendOutcome message chan.old chan.new result }
     {
         FirstSend { message }.apply(chan)
@@ -79,7 +80,7 @@ impl SendCall {
         chan: &mut Chan<T, S, A>,
     ) -> SendNext<T>
         ensures turn { Turned {A = A} (Step.Send message) after_send chan.old chan.new result }
-        ensures answers { IsParking message result }
+        ensures answers { IsParkingAnswer message result }
         ensures outcome { ParkSendOutcome A message signal chan.old chan.new result }
     {
         ParkSend { message, signal }.apply(chan)
@@ -102,7 +103,7 @@ impl SendCall {
     ) -> SendNext<T>
         ensures turn { Turned {A = A} (step_of_parked_send self last)
             (after_parked_send self last) chan.old chan.new result }
-        ensures answers { IsAgain self last result }
+        ensures answers { IsParkedAnswer self last result }
         ensures outcome { AgainSendOutcome A self last signal chan.old chan.new result }
     {
         let call = self;
@@ -135,7 +136,7 @@ impl<T: Drop, S: Drop, A: Allocator + Copy> Turn<T, S, A> for FirstSend<T> {
 
     ghost leads = { λ _ old new next does. by_step does.0 };
 
-    ghost answers = { λ turn. IsFirst turn.message };
+    ghost answers = { λ turn. IsFirstAnswer turn.message };
 
     #[inline(always)]
     fn apply(self, chan: &mut Chan<T, S, A>) -> SendNext<T> {
@@ -167,7 +168,7 @@ impl<T: Drop, S: Drop, A: Allocator + Copy> Turn<T, S, A> for ParkSend<T, S> {
 
     ghost leads = { λ _ old new next does. by_step does.0 };
 
-    ghost answers = { λ turn. IsParking turn.message };
+    ghost answers = { λ turn. IsParkingAnswer turn.message };
 
     fn apply(self, chan: &mut Chan<T, S, A>) -> SendNext<T> {
         match chan.send(self.message, self.signal) {
@@ -200,7 +201,7 @@ impl<T: Drop, S: Drop, A: Allocator + Copy> Turn<T, S, A> for AgainSend<S> {
 
     ghost leads = { λ _ old new next does. by_step does.0 };
 
-    ghost answers = { λ turn. IsAgain turn.call turn.last };
+    ghost answers = { λ turn. IsParkedAnswer turn.call turn.last };
 
     // `NoTicket` comes only if the call parked in another channel. No message can be handed back.
     fn apply(self, chan: &mut Chan<T, S, A>) -> SendNext<T> {

@@ -1,7 +1,7 @@
 //! A receive through a gate.
 ghost use Rattle.std.specs.Prelude.{◌≡◌, ◌≢◌, ◌⊎◌, ℕ, Bool, true, Result, Err, IfSome, is_some};
 ghost use Rattle.flume_calls.specs.declared.calls.receive.RecvNext.{RecvNext};
-ghost use Rattle.flume_calls.specs.ReceiveTurns.{IsFirst, IsParking, IsAgain};
+ghost use Rattle.flume_calls.specs.ReceiveTurns.{IsFirstAnswer, IsParkingAnswer, IsParkedAnswer};
 ghost use Rattle.flume_calls.specs.ReceiveGates.{got_or_no_memory, IsNeverRefused, EndsUnparked};
 ghost use Rattle.flume_calls.specs.ReceiveGates.{ParkedReceive, WholeReceive};
 
@@ -29,38 +29,38 @@ pub trait RecvGate<T> {
     ghost waits: { Self → Self → Bool → Type 0 };
 
     // Holds from `make_waiter` on until the call has ended.
-    ghost is_ready: { Self → Type 0 };
+    ghost can_park: { Self → Type 0 };
 
     /// The first turn. `Done(Err(NoMemory))`: there is a message, but no memory to hand it out.
     fn first(&mut self) -> RecvNext<T>
         ensures does { first_turn self.old self.new result }
-        ensures answers { IsFirst result };
+        ensures answers { IsFirstAnswer result };
 
     /// Makes the waiter and its signal. `None`: out of memory.
     fn make_waiter(&mut self) -> Option<(Self::Waiter, Self::Signal)>
         ensures does { makes self.old self.new (is_some result) }
-        ensures ready { IfSome result (λ _. is_ready self.new) };
+        ensures ready { IfSome result (λ _. can_park self.new) };
 
     /// The turn that may park.
     fn park(&mut self, signal: Self::Signal) -> RecvNext<T>
-        requires ready { is_ready self.old }
+        requires ready { can_park self.old }
         ensures does { parking_turn self.old self.new result }
-        ensures answers { IsParking result }
-        ensures ready { (ticket : ℕ) → result ≡ RecvNext.Park ticket → is_ready self.new };
+        ensures answers { IsParkingAnswer result }
+        ensures ready { (ticket : ℕ) → result ≡ RecvNext.Park ticket → can_park self.new };
 
     /// A turn of the parked call, the `last` one at its deadline, or if a turn was out of memory.
     fn again(&mut self, call: RecvCall, last: bool) -> RecvNext<T>
-        requires ready { is_ready self.old }
+        requires ready { can_park self.old }
         ensures does { parked_turn self.old call last self.new result }
-        ensures answers { IsAgain call last result }
+        ensures answers { IsParkedAnswer call last result }
         ensures ready { (ticket : ℕ)
             → (result ≡ RecvNext.Park ticket) ⊎ (result ≡ RecvNext.Refused ticket)
-            → is_ready self.new };
+            → can_park self.new };
 
     /// Waits for a wake or for the deadline. True, at once, if the deadline is reached.
     fn wait(&mut self, waiter: &Self::Waiter) -> bool
         ensures does { waits self.old self.new result }
-        ensures ready { is_ready self.old → is_ready self.new };
+        ensures ready { can_park self.old → can_park self.new };
 }
 
 /// A receive that waits. It ends as its last turn says. `NoMemory`: no memory for the waiter, or in
@@ -128,7 +128,7 @@ fn parked_receive<T: Drop, G: RecvGate<T>, R: Wait>(
     waiter: &G::Waiter,
     mut call: RecvCall,
 ) -> Result<T, RecvTimeoutError>
-    requires ready { G.is_ready gate.old }
+    requires ready { G.can_park gate.old }
     ensures run { ParkedReceive G.parked_turn G.waits gate.old call gate.new result }
     ensures wants_no_memory { IsNeverRefused G.parked_turn
         → result ≢ Err RecvTimeoutError.NoMemory }
@@ -155,7 +155,7 @@ fn withdraw_refused<T: Drop, G: RecvGate<T>>(
     gate: &mut G,
     call: RecvCall,
 ) -> Result<T, RecvTimeoutError>
-    requires ready { G.is_ready gate.old }
+    requires ready { G.can_park gate.old }
     ensures withdraws { (answer : Result T RecvTimeoutError)
         × G.parked_turn gate.old call true gate.new (RecvNext.Done answer)
         × (result ≡ got_or_no_memory answer) }

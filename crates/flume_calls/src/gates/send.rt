@@ -1,7 +1,7 @@
 //! A send through a gate.
 ghost use Rattle.std.specs.Prelude.{◌≡◌, ◌≢◌, ℕ, Bool, is_some};
 ghost use Rattle.flume_calls.specs.declared.calls.send.SendNext.{SendNext};
-ghost use Rattle.flume_calls.specs.SendTurns.{IsFirst, IsParking, IsAgain};
+ghost use Rattle.flume_calls.specs.SendTurns.{IsFirstAnswer, IsParkingAnswer, IsParkedAnswer};
 ghost use Rattle.flume_calls.specs.SendGates.{ParkedSend, WholeSend};
 
 use crate::calls::{SendCall, SendNext};
@@ -31,7 +31,7 @@ pub trait SendGate<T> {
     /// The first turn.
     fn first(&mut self, message: T) -> SendNext<T>
         ensures does { first_turn self.old message self.new result }
-        ensures answers { IsFirst message result };
+        ensures answers { IsFirstAnswer message result };
 
     /// Makes the waiter and its signal. `None`: out of memory.
     fn make_waiter(&mut self) -> Option<(Self::Waiter, Self::Signal)>
@@ -40,12 +40,12 @@ pub trait SendGate<T> {
     /// The turn that may park.
     fn park(&mut self, message: T, signal: Self::Signal) -> SendNext<T>
         ensures does { parking_turn self.old message self.new result }
-        ensures answers { IsParking message result };
+        ensures answers { IsParkingAnswer message result };
 
     /// A turn of the parked call, the `last` one at its deadline.
     fn again(&mut self, call: SendCall, last: bool) -> SendNext<T>
         ensures does { parked_turn self.old call last self.new result }
-        ensures answers { IsAgain call last result };
+        ensures answers { IsParkedAnswer call last result };
 
     /// Waits for a wake or for the deadline. True, at once, if the deadline is reached.
     fn wait(&mut self, waiter: &Self::Waiter) -> bool

@@ -3,7 +3,7 @@ ghost use Rattle.std.specs.Prelude.{◌≡◌, ◌≢◌, ◌<◌, ◌≤◌, So
 ghost use Rattle.std.specs.Prelude.{IfOk, IfErr, OnErr, IfSome, IfNone, OnSome};
 ghost use Rattle.std.specs.Borrow.{Lends, sem};
 ghost use Rattle.std.specs.Vec.{vec_len, vec_capacity};
-ghost use Rattle.flume_chain.specs.Links.{end, with, next_at, previous_at, element_at};
+ghost use Rattle.flume_chain.specs.Links.{nil, with, next_at, previous_at, element_at};
 ghost use Rattle.flume_chain.specs.Links.{HasNode, Linked, Same, Put, Full, links_with_value};
 ghost use Rattle.flume_chain.specs.Links.{with_new_label};
 ghost use Rattle.std.specs.Option.{option_map};
@@ -14,7 +14,7 @@ use std::alloc::Allocator;
 use std::mem::{forget, replace};
 
 /// The place that no element has: it is before the first and after the last.
-pub(super) const END: u32 = u32::MAX;
+pub(super) const NIL: u32 = u32::MAX;
 
 #[derive(Drop)]
 pub(super) struct Links<L, E, A: Allocator> {
@@ -31,15 +31,15 @@ impl<L: Drop, E: Drop, A: Allocator> Links<L, E, A> {
     pub(super) fn new(alloc: A) -> Self
         ensures size { vec_len result.nodes ≡ 0 }
         ensures capacity { vec_capacity result.nodes ≡ 0 }
-        ensures first { result.first ≡ end }
-        ensures last { result.last ≡ end }
-        ensures free { result.free ≡ end }
+        ensures first { result.first ≡ nil }
+        ensures last { result.last ≡ nil }
+        ensures free { result.free ≡ nil }
     {
         Links {
             nodes: Vec::new(alloc),
-            first: END,
-            last: END,
-            free: END,
+            first: NIL,
+            last: NIL,
+            free: NIL,
         }
     }
 
@@ -58,26 +58,26 @@ impl<L: Drop, E: Drop, A: Allocator> Links<L, E, A> {
     pub(super) fn clear(&mut self)
         ensures size { vec_len self.new.nodes ≡ 0 }
         ensures capacity { vec_capacity self.new.nodes ≡ vec_capacity self.old.nodes }
-        ensures first { self.new.first ≡ end }
-        ensures last { self.new.last ≡ end }
-        ensures free { self.new.free ≡ end }
+        ensures first { self.new.first ≡ nil }
+        ensures last { self.new.last ≡ nil }
+        ensures free { self.new.free ≡ nil }
     {
         self.nodes.clear();
-        self.first = END;
-        self.last = END;
-        self.free = END;
+        self.first = NIL;
+        self.last = NIL;
+        self.free = NIL;
     }
 
     #[inline(always)]
     pub(super) fn next(&self, place: u32) -> u32
         ensures next { result ≡ next_at self.now place }
     {
-        if place == END {
+        if place == NIL {
             return self.first;
         }
         match self.nodes.get(place as usize) {
             Some(node) => node.next(),
-            None => END,
+            None => NIL,
         }
     }
 
@@ -85,12 +85,12 @@ impl<L: Drop, E: Drop, A: Allocator> Links<L, E, A> {
     pub(super) fn previous(&self, place: u32) -> u32
         ensures previous { result ≡ previous_at self.now place }
     {
-        if place == END {
+        if place == NIL {
             return self.last;
         }
         match self.nodes.get(place as usize) {
             Some(node) => node.previous(),
-            None => END,
+            None => NIL,
         }
     }
 
@@ -154,11 +154,11 @@ impl<L: Drop, E: Drop, A: Allocator> Links<L, E, A> {
     #[inline(always)]
     fn set_next(&mut self, place: u32, next: u32)
         requires occupied { HasNode self.old place }
-        requires fits { vec_len self.old.nodes ≤ end }
+        requires fits { vec_len self.old.nodes ≤ nil }
         ensures written { Linked self.old self.new (with (next_at self.old) place next)
             (previous_at self.old) (element_at self.old) self.old.free }
     {
-        if place == END {
+        if place == NIL {
             self.first = next;
             return;
         }
@@ -168,11 +168,11 @@ impl<L: Drop, E: Drop, A: Allocator> Links<L, E, A> {
     #[inline(always)]
     fn set_previous(&mut self, place: u32, previous: u32)
         requires occupied { HasNode self.old place }
-        requires fits { vec_len self.old.nodes ≤ end }
+        requires fits { vec_len self.old.nodes ≤ nil }
         ensures written { Linked self.old self.new (next_at self.old)
             (with (previous_at self.old) place previous) (element_at self.old) self.old.free }
     {
-        if place == END {
+        if place == NIL {
             self.last = previous;
             return;
         }
@@ -187,7 +187,7 @@ impl<L: Drop, E: Drop, A: Allocator> Links<L, E, A> {
         next: u32,
     ) -> Result<u32, LabelledValue<L, E>>
         requires free { HasNode self.old self.old.free }
-        requires fits { vec_len self.old.nodes ≤ end }
+        requires fits { vec_len self.old.nodes ≤ nil }
         ensures put { IfOk result (λ place. Put self.old self.new place
             (with (next_at self.old) place next) (with (previous_at self.old) place previous)
             (with (element_at self.old) place (Some element))) }
@@ -196,7 +196,7 @@ impl<L: Drop, E: Drop, A: Allocator> Links<L, E, A> {
         ensures unchanged { OnErr result (Same self.old self.new) }
     {
         let place = self.free;
-        if place != END {
+        if place != NIL {
             let node = &mut self.nodes[place as usize];
             self.free = node.next();
             // A free node holds nothing to drop.
@@ -204,7 +204,7 @@ impl<L: Drop, E: Drop, A: Allocator> Links<L, E, A> {
             return Ok(place);
         }
         let place = self.nodes.len();
-        if place >= END as usize {
+        if place >= NIL as usize {
             return Err(element);
         }
         if place == self.nodes.capacity() && self.nodes.reserve(1).is_err() {
@@ -221,7 +221,7 @@ impl<L: Drop, E: Drop, A: Allocator> Links<L, E, A> {
         element: LabelledValue<L, E>,
     ) -> Result<u32, LabelledValue<L, E>>
         requires free { HasNode self.old self.old.free }
-        requires fits { vec_len self.old.nodes ≤ end }
+        requires fits { vec_len self.old.nodes ≤ nil }
         requires next { HasNode self.old next }
         requires previous { HasNode self.old (previous_at self.old next) }
         ensures put { IfOk result (λ place. Put self.old self.new place
@@ -241,7 +241,7 @@ impl<L: Drop, E: Drop, A: Allocator> Links<L, E, A> {
 
     #[inline(always)]
     pub(super) fn unlink(&mut self, place: u32)
-        requires fits { vec_len self.old.nodes ≤ end }
+        requires fits { vec_len self.old.nodes ≤ nil }
         requires next { HasNode self.old (next_at self.old place) }
         requires previous { HasNode self.old (previous_at self.old place) }
         ensures unlinked { Linked self.old self.new
@@ -258,7 +258,7 @@ impl<L: Drop, E: Drop, A: Allocator> Links<L, E, A> {
     #[inline(always)]
     pub(super) fn unlink_and_free(&mut self, place: u32)
         requires place { place < vec_len self.old.nodes }
-        requires fits { vec_len self.old.nodes ≤ end }
+        requires fits { vec_len self.old.nodes ≤ nil }
         requires next { HasNode self.old (next_at self.old place) }
         requires previous { HasNode self.old (previous_at self.old place) }
         ensures linked { Linked self.old self.new
@@ -275,15 +275,15 @@ impl<L: Drop, E: Drop, A: Allocator> Links<L, E, A> {
     #[inline(always)]
     pub(super) fn link_last(&mut self, place: u32)
         requires place { place < vec_len self.old.nodes }
-        requires fits { vec_len self.old.nodes ≤ end }
+        requires fits { vec_len self.old.nodes ≤ nil }
         requires last { HasNode self.old self.old.last }
         ensures linked { Linked self.old self.new
-            (with (with (next_at self.old) place end) self.old.last place)
-            (with (with (previous_at self.old) place self.old.last) end place)
+            (with (with (next_at self.old) place nil) self.old.last place)
+            (with (with (previous_at self.old) place self.old.last) nil place)
             (element_at self.old) self.old.free }
     {
         let last = self.last;
-        self.set_next(place, END);
+        self.set_next(place, NIL);
         self.set_next(last, place);
         self.set_previous(place, last);
         self.last = place;
@@ -292,21 +292,21 @@ impl<L: Drop, E: Drop, A: Allocator> Links<L, E, A> {
     #[inline(always)]
     pub(super) fn take_first(&mut self) -> Option<LabelledValue<L, E>>
         requires first { HasNode self.old self.old.first }
-        requires fits { vec_len self.old.nodes ≤ end }
-        requires next { self.old.first ≢ end → HasNode self.old (next_at self.old self.old.first) }
-        requires element { self.old.first ≢ end → IsSome (element_at self.old self.old.first) }
-        ensures none { IfNone result (self.old.first ≡ end) }
-        ensures some { OnSome result (self.old.first ≢ end) }
+        requires fits { vec_len self.old.nodes ≤ nil }
+        requires next { self.old.first ≢ nil → HasNode self.old (next_at self.old self.old.first) }
+        requires element { self.old.first ≢ nil → IsSome (element_at self.old self.old.first) }
+        ensures none { IfNone result (self.old.first ≡ nil) }
+        ensures some { OnSome result (self.old.first ≢ nil) }
         ensures element { IfSome result (λ e. element_at self.old self.old.first ≡ Some e) }
         ensures taken { OnSome result (Linked self.old self.new
-            (with (with (next_at self.old) end (next_at self.old self.old.first))
+            (with (with (next_at self.old) nil (next_at self.old self.old.first))
             self.old.first self.old.free)
-            (with (previous_at self.old) (next_at self.old self.old.first) end)
+            (with (previous_at self.old) (next_at self.old self.old.first) nil)
             (with (element_at self.old) self.old.first None) self.old.first) }
         ensures unchanged { IfNone result (Same self.old self.new) }
     {
         let place = self.first;
-        if place == END {
+        if place == NIL {
             return None;
         }
         let node = &mut self.nodes[place as usize];
@@ -315,7 +315,7 @@ impl<L: Drop, E: Drop, A: Allocator> Links<L, E, A> {
         node.set_next(self.free);
         self.free = place;
         self.first = next;
-        self.set_previous(next, END);
+        self.set_previous(next, NIL);
         Some(element)
     }
 }

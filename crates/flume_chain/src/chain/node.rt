@@ -2,7 +2,7 @@
 ghost use Rattle.std.specs.Prelude.{◌≡◌, Some, None, option_copied, IsSome};
 ghost use Rattle.std.specs.Borrow.{Lends, sem};
 ghost use Rattle.std.specs.Option.{option_map};
-ghost use Rattle.flume_chain.specs.Links.{next_of, previous_of, element_of, with_value_of};
+ghost use Rattle.flume_chain.specs.Links.{next_of, previous_of, element_of, node_with_value};
 ghost use Rattle.flume_chain.specs.Links.{with_new_label};
 
 use crate::labelled::LabelledValue;
@@ -97,7 +97,7 @@ impl<L, E> Node<L, E> {
     pub(super) fn value_mut(&mut self) -> &mut E
         requires occupied { IsSome (element_of self.old) }
         ensures* writes_back { sem 𝓛 (Lends (the_row L.row E.row) E.row self.entry result
-            (with_value_of self.old)) }
+            (node_with_value self.old)) }
         ensures value { option_map (λ e. e.value) (element_of self.old) ≡ Some result.now }
     {
         match self {

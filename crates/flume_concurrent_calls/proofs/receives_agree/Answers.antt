@@ -98,6 +98,6 @@ returns g c = record {
   asks = asks;
   leaves = leaves;
   withdraws = withdraws;
-  asks_by = λ call t is. ap (λ b. Some (if b then PollSend t else Poll t)) (receives call is);
-  leaves_by = λ t. refl;
+  asks_step = λ call t is. ap (λ b. Some (if b then PollSend t else Poll t)) (receives call is);
+  leaves_step = λ t. refl;
 }

@@ -86,6 +86,6 @@ returns g c = record {
   asks = asks;
   leaves = leaves;
   dropped = dropped;
-  asks_by = λ call t is. ap (λ b. Some (if b then PollSend t else Poll t)) is;
-  leaves_by = λ m t. refl;
+  asks_step = λ call t is. ap (λ b. Some (if b then PollSend t else Poll t)) is;
+  leaves_step = λ m t. refl;
 }

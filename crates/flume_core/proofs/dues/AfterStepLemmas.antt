@@ -15,8 +15,8 @@ use Rattle.flume_model.specs.Line.{greater}
 use Rattle.flume_model.specs.Entries.{again, entry_of, passes_on, without_ticket}
 use Rattle.flume_state.specs.Messages.{Blocked}
 use Rattle.flume_state.specs.Notices.{due_now, with_signal}
-use Rattle.flume_state.specs.Sends.{newly_blocked, noticed_send, with_notice}
-use Rattle.flume_state.specs.Receivers.{EntryList, new_receiver, noticed_receiver, waits_on}
+use Rattle.flume_state.specs.Sends.{newly_blocked, with_send_notice, with_notice}
+use Rattle.flume_state.specs.Receivers.{EntryList, new_receiver, with_receiver_notice, waits_on}
 use Rattle.flume_state.specs.State.{State}
 use Rattle.flume_state.specs.Effects.{Returns, after_end_dropped, after_withdrawal, after_wake_round}
 use Rattle.flume_state.specs.Effects.{after_take, without_receiver, with_peak, after_admissions}
@@ -62,7 +62,7 @@ module _ {T S A : Type 0} where
 
   -- a send has another signal
   pub signalled : (old new : State T S) (step : Step T) (reply : Reply T A) (t : ℕ) (given : Option S) → NoneWaits step reply
-      → new ≡ record old { sends = noticed_send (with_signal given) t old.sends } → BecomesDue old step reply new
+      → new ≡ record old { sends = with_send_notice (with_signal given) t old.sends } → BecomesDue old step reply new
   signalled old new step reply t given idle is =
       by_sides old _ new step reply is refl refl idle (signalled_sends old.sends t given) (λ u. receiver_kept (entry_of u old.entries))
 
@@ -89,12 +89,12 @@ module _ {T S A : Type 0} where
       → new ≡ record old {
         blocked = old.blocked ++ message ∷ [];
         space = space;
-        sends = insert old.sends old.next (newly_blocked signal);
-        next = old.next + 1;
+        sends = insert old.sends old.next_ticket (newly_blocked signal);
+        next_ticket = old.next_ticket + 1;
       }
       → BecomesDue old step reply new
   blocks old new step reply message signal space idle reachable is =
-      by_sides old _ new step reply is refl refl idle (new_sends old.sends old.next signal (tickets_of old reachable).new_send)
+      by_sides old _ new step reply is refl refl idle (new_sends old.sends old.next_ticket signal (tickets_of old reachable).new_send)
       (λ u. receiver_kept (entry_of u old.entries))
 
   -- a wake round
@@ -156,15 +156,15 @@ module _ {T S A : Type 0} where
   -- a receiver parks
   pub parked : (old new : State T S) (step : Step T) (reply : Reply T A) (kind : Kind) (signal : S) → NoneWaits step reply
       → IsReachable A old
-      → new ≡ with_peak (old.entries ++ new_receiver old.next kind signal ∷ []) (record old { next = old.next + 1 })
+      → new ≡ with_peak (old.entries ++ new_receiver old.next_ticket kind signal ∷ []) (record old { next_ticket = old.next_ticket + 1 })
       → BecomesDue old step reply new
   parked old new step reply kind signal idle reachable is =
       by_sides old _ new step reply is refl refl idle (λ t. send_kept (get old.sends t))
-      (new_receivers old.entries old.next kind signal (tickets_of old reachable).new_receiver)
+      (new_receivers old.entries old.next_ticket kind signal (tickets_of old reachable).new_receiver)
 
   -- a parked receiver waits on, or again
   pub waits : (old new : State T S) (t : ℕ) (given : Option S) → IsReachable A old
-      → new ≡ with_peak (again t (noticed_receiver (waits_on given) t old.entries)) old → BecomesDue {A = A} old (Poll t) Waiting new
+      → new ≡ with_peak (again t (with_receiver_notice (waits_on given) t old.entries)) old → BecomesDue {A = A} old (Poll t) Waiting new
   waits old new t given reachable is = subst (λ s. BecomesDue {A = A} old (Poll t) Waiting s) (sym is) record {
     sends = λ u.
         subst (λ c. SendDue c (get old.sends u) (get old.sends u)) (sym (not_closed (is_closed old.senders old.receivers)))
@@ -173,7 +173,7 @@ module _ {T S A : Type 0} where
   }
     where
       asked : EntryList T S
-      asked = noticed_receiver (waits_on given) t old.entries
+      asked = with_receiver_notice (waits_on given) t old.entries
 
       by_case : (u : ℕ) (b : Bool) → eqb t u ≡ b → ReceiverDue (eqb t u) (entry_of u old.entries) (entry_of u (again t asked))
       by_case u true e =

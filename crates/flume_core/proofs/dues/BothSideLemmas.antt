@@ -8,7 +8,7 @@ use Rattle.flume_model.specs.declared.step.Kind.{Kind}
 use Rattle.flume_model.specs.Entries.{entry_of, round_for, without_ticket}
 use Rattle.flume_model.proofs.EntryListLemmas.{entry_last, none_same, tickets_round}
 use Rattle.flume_state.specs.Notices.{due_now, with_signal}
-use Rattle.flume_state.specs.Sends.{SendMap, newly_blocked, noticed_send, with_notice}
+use Rattle.flume_state.specs.Sends.{SendMap, newly_blocked, with_send_notice, with_notice}
 use Rattle.flume_state.specs.Receivers.{EntryList, new_receiver}
 use Rattle.flume_state.specs.Due.{SendDue, ReceiverDue}
 use Rattle.flume_state.proofs.SendMapLemmas.{get-insert_same, get-insert_other, get-remove_same, get-remove_other}
@@ -38,12 +38,12 @@ module _ {S : Type 0} where
       (cases_eq t k)
 
   -- one with another signal
-  pub signalled_sends : (m : SendMap S) (k : ℕ) (given : Option S) → SendsDue m (noticed_send (with_signal given) k m)
+  pub signalled_sends : (m : SendMap S) (k : ℕ) (given : Option S) → SendsDue m (with_send_notice (with_signal given) k m)
   signalled_sends m k given t =
       let f = with_notice (with_signal given) in
       ⊎_elim (λ e.
       subst (λ y. SendDue false (get m t) y)
-      (sym (ap (get (noticed_send (with_signal given) k m)) e ∙ get-changed_same m k f ∙ ap (λ u. option_map f (get m u)) (sym e)))
+      (sym (ap (get (with_send_notice (with_signal given) k m)) e ∙ get-changed_same m k f ∙ ap (λ u. option_map f (get m u)) (sym e)))
       (send_signalled given (get m t)))
       (λ ne. subst (λ y. SendDue false (get m t) y) (sym (get-changed_other m k f t ne)) (send_kept (get m t))) (cases_eq t k)
 

@@ -4,9 +4,9 @@ use Rattle.std.proofs.Common.{◌++◌, length, refl, subst, arith}
 use Rattle.std.specs.List.{All}
 use Rattle.flume_model.specs.Limits.{is_full}
 use Rattle.flume_state.specs.Messages.{Blocked}
-use Rattle.flume_state.specs.Sends.{changed, accepted_now}
+use Rattle.flume_state.specs.Sends.{with_send_changed, accepted_now}
 use Rattle.flume_state.specs.State.{State}
-use Rattle.flume_state.specs.Effects.{after_admission_of, after_admission, after_refill, with_front_of}
+use Rattle.flume_state.specs.Effects.{after_admission_of, after_admission, after_admission_if_room, with_front_of}
 use Rattle.flume_state.specs.Effects.{with_front, after_admissions_of, after_admissions, after_take}
 use Rattle.flume_core.proofs.dues.SendsDueLemmas.{IsBlocked, Accepts, accepts_more}
 
@@ -46,7 +46,8 @@ module _ {T S : Type 0} where
 
   -- the first of those blocked moves in
   moves_one : (old s : State T S) (b : Blocked T) (later : List (Blocked T)) → MovesIn old s → s.blocked ≡ b ∷ later
-      → MovesIn old (record s { queue = s.queue ++ b.message ∷ []; blocked = later; sends = changed s.sends b.ticket accepted_now })
+      → MovesIn old (record s
+      { queue = s.queue ++ b.message ∷ []; blocked = later; sends = with_send_changed s.sends b.ticket accepted_now })
   moves_one old s b later h is =
       let all = subst (λ l. All (λ x. IsBlocked old.sends x.ticket) l) is h.still_blocked in
       record {
@@ -74,7 +75,7 @@ module _ {T S : Type 0} where
       by_queue (m ∷ rest) = h
 
   -- if the queue has room
-  moves_refilled : (old s : State T S) → MovesIn old s → MovesIn old (after_refill s)
+  moves_refilled : (old s : State T S) → MovesIn old s → MovesIn old (after_admission_if_room s)
   moves_refilled old s h = by_room (not (is_full s.capacity (length s.queue)))
     where
       by_room : (b : Bool) → MovesIn old (if b then after_admission s else s)
@@ -92,19 +93,24 @@ module _ {T S : Type 0} where
       by_list : (xs : List (Blocked T)) (s : State T S) → MovesIn old s → s.blocked ≡ xs → MovesIn old (after_admissions_of xs s)
       by_list [] s h is = h
       by_list (b ∷ later) s h is =
-          let next = record s { queue = s.queue ++ b.message ∷ []; blocked = later; sends = changed s.sends b.ticket accepted_now } in
+          let next = record s {
+            queue = s.queue ++ b.message ∷ [];
+            blocked = later;
+            sends = with_send_changed s.sends b.ticket
+                accepted_now;
+          } in
           by_room (is_full s.capacity (length s.queue)) (by_list later next (moves_one old s b later h is) refl)
         where
           by_room : (full : Bool)
               → MovesIn old (after_admissions_of later (record s {
                 queue = s.queue ++ b.message ∷ [];
                 blocked = later;
-                sends = changed s.sends b.ticket accepted_now;
+                sends = with_send_changed s.sends b.ticket accepted_now;
               }))
               → MovesIn old (if full then s else after_admissions_of later (record s {
                 queue = s.queue ++ b.message ∷ [];
                 blocked = later;
-                sends = changed s.sends b.ticket accepted_now;
+                sends = with_send_changed s.sends b.ticket accepted_now;
               }))
           by_room true more = h
           by_room false more = more

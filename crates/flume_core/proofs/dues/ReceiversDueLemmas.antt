@@ -9,7 +9,7 @@ use Rattle.flume_model.specs.declared.entry.Mark.TheVariants.{Waiting, Woken, Fi
 use Rattle.flume_model.specs.Entries.{all_woken, entry_of, round, round_for, without_ticket, again}
 use Rattle.flume_state.specs.declared.notice.Notice.{Notice}
 use Rattle.flume_state.specs.Notices.{due_now}
-use Rattle.flume_state.specs.Receivers.{EntryList, noticed_receiver}
+use Rattle.flume_state.specs.Receivers.{EntryList, with_receiver_notice}
 use Rattle.flume_state.specs.Due.{ReceiverDue, receiver_due_in}
 use Rattle.flume_model.proofs.EntryListLemmas.{again_cases, entry_last, ticket_of}
 use Rattle.flume_core.proofs.dues.OneTicketLemmas.{receiver_kept, receiver_woken}
@@ -43,12 +43,12 @@ module _ {T N : Type 0} where
 module _ {T S : Type 0} where
   -- another receiver's notice is changed
   pub entry_noticed : (f : Notice S → Notice S) (t u : ℕ) (es : EntryList T S) → eqb u t ≡ false
-      → entry_of t (noticed_receiver f u es) ≡ entry_of t es
+      → entry_of t (with_receiver_notice f u es) ≡ entry_of t es
   entry_noticed f t u [] other = refl
   entry_noticed f t u (e ∷ es) other = by_case (eqb e.ticket u) refl (entry_noticed f t u es other)
     where
-      by_case : (b : Bool) → eqb e.ticket u ≡ b → entry_of t (noticed_receiver f u es) ≡ entry_of t es
-          → entry_of t (noticed_receiver f u (e ∷ es)) ≡ entry_of t (e ∷ es)
+      by_case : (b : Bool) → eqb e.ticket u ≡ b → entry_of t (with_receiver_notice f u es) ≡ entry_of t es
+          → entry_of t (with_receiver_notice f u (e ∷ es)) ≡ entry_of t (e ∷ es)
       by_case true same rest =
           let not_it : eqb e.ticket t ≡ false = rw (eqb-true e.ticket u same) other in
           simp (same, not_it) refl
@@ -56,23 +56,23 @@ module _ {T S : Type 0} where
 
   -- leaving a receiver out also leaves out how its notice was changed
   pub without_noticed : (f : Notice S → Notice S) (t : ℕ) (es : EntryList T S)
-      → without_ticket t (noticed_receiver f t es) ≡ without_ticket t es
+      → without_ticket t (with_receiver_notice f t es) ≡ without_ticket t es
   without_noticed f t [] = refl
   without_noticed f t (e ∷ es) = by_case (eqb e.ticket t) refl (without_noticed f t es)
     where
-      by_case : (b : Bool) → eqb e.ticket t ≡ b → without_ticket t (noticed_receiver f t es) ≡ without_ticket t es
-          → without_ticket t (noticed_receiver f t (e ∷ es)) ≡ without_ticket t (e ∷ es)
+      by_case : (b : Bool) → eqb e.ticket t ≡ b → without_ticket t (with_receiver_notice f t es) ≡ without_ticket t es
+          → without_ticket t (with_receiver_notice f t (e ∷ es)) ≡ without_ticket t (e ∷ es)
       by_case true same rest = simp same refl
       by_case false differ rest = simp differ (ap (λ l. e ∷ l) rest)
 
   -- one whose notice was named isn't due
   pub noticed_idle : (f : Notice S → Notice S) → ((n : Notice S) → (f n).due ≡ false) → (t : ℕ) (es : EntryList T S)
-      → receiver_due_in (entry_of t (noticed_receiver f t es)) ≡ false
+      → receiver_due_in (entry_of t (with_receiver_notice f t es)) ≡ false
   noticed_idle f not_due t [] = refl
   noticed_idle f not_due t (e ∷ es) = by_case (eqb e.ticket t) refl (noticed_idle f not_due t es)
     where
-      by_case : (b : Bool) → eqb e.ticket t ≡ b → receiver_due_in (entry_of t (noticed_receiver f t es)) ≡ false
-          → receiver_due_in (entry_of t (noticed_receiver f t (e ∷ es))) ≡ false
+      by_case : (b : Bool) → eqb e.ticket t ≡ b → receiver_due_in (entry_of t (with_receiver_notice f t es)) ≡ false
+          → receiver_due_in (entry_of t (with_receiver_notice f t (e ∷ es))) ≡ false
       by_case true same rest = simp same (not_due e.notice)
       by_case false differ rest = simp differ rest
 

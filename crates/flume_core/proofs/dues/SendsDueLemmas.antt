@@ -8,7 +8,7 @@ use Rattle.flume_model.specs.Channel.{has_ticket}
 use Rattle.flume_state.specs.declared.sends.LiveSend.{LiveSend}
 use Rattle.flume_state.specs.Messages.{Blocked}
 use Rattle.flume_state.specs.Notices.{due_now}
-use Rattle.flume_state.specs.Sends.{SendMap, changed, accepted_now, noticed_send, with_notice}
+use Rattle.flume_state.specs.Sends.{SendMap, with_send_changed, accepted_now, with_send_notice, with_notice}
 use Rattle.flume_state.specs.State.{offers_of}
 use Rattle.flume_state.specs.Effects.{with_all_due}
 use Rattle.flume_state.specs.Due.{SendDue}
@@ -30,16 +30,16 @@ module _ {S : Type 0} where
   accepted_twice (Some send) = refl
 
   -- one more that was blocked is accepted
-  pub accepts_more : (m n : SendMap S) (k : ℕ) → Accepts m n → IsBlocked m k → Accepts m (changed n k accepted_now)
+  pub accepts_more : (m n : SendMap S) (k : ℕ) → Accepts m n → IsBlocked m k → Accepts m (with_send_changed n k accepted_now)
   accepts_more m n k moved blocked_ t = ⊎_elim here there (cases_eq t k)
     where
       Claim : Type 0
-      Claim = (get (changed n k accepted_now) t ≡ get m t)
-          ⊎ (IsBlocked m t × (get (changed n k accepted_now) t ≡ option_map accepted_now (get m t)))
+      Claim = (get (with_send_changed n k accepted_now) t ≡ get m t)
+          ⊎ (IsBlocked m t × (get (with_send_changed n k accepted_now) t ≡ option_map accepted_now (get m t)))
 
       here : t ≡ k → Claim
       here e =
-          let now : get (changed n k accepted_now) t ≡ option_map accepted_now (get n t) =
+          let now : get (with_send_changed n k accepted_now) t ≡ option_map accepted_now (get n t) =
           rw e (get-changed_same n k accepted_now) in
           inr (
             rw e blocked_,
@@ -69,11 +69,11 @@ module _ {S : Type 0} where
 
   -- one send as another one's notice is changed
   noticed_at : (m : SendMap S) (k t : ℕ)
-      → get (noticed_send due_now k m) t ≡ (if eqb k t then option_map (with_notice due_now) (get m t) else get m t)
+      → get (with_send_notice due_now k m) t ≡ (if eqb k t then option_map (with_notice due_now) (get m t) else get m t)
   noticed_at m k t = by_case (eqb k t) refl
     where
       by_case : (b : Bool) → eqb k t ≡ b
-          → get (noticed_send due_now k m) t ≡ (if b then option_map (with_notice due_now) (get m t) else get m t)
+          → get (with_send_notice due_now k m) t ≡ (if b then option_map (with_notice due_now) (get m t) else get m t)
       by_case true e =
           rw (sym (eqb-true k t e)) (get-changed_same m k (with_notice due_now))
       by_case false e = get-changed_other m k (with_notice due_now) t (λ same. eqb-false k t e (sym same))
@@ -84,6 +84,6 @@ module _ {T S : Type 0} where
       → get (with_all_due some m) t ≡ (if has_ticket t (offers_of some) then option_map (with_notice due_now) (get m t) else get m t)
   all_due_at [] m t = refl
   all_due_at (b ∷ some) m t =
-      all_due_at some (noticed_send due_now b.ticket m) t
+      all_due_at some (with_send_notice due_now b.ticket m) t
       ∙ ap (λ x. if has_ticket t (offers_of some) then option_map (with_notice due_now) x else x) (noticed_at m b.ticket t)
       ∙ marked_bits (eqb b.ticket t) (has_ticket t (offers_of some)) (get m t)

@@ -34,8 +34,8 @@ blocked_bits (Some send) true false e lives = ap not (let accepted : send.accept
 module _ {T S : Type 0} where
   -- the next ticket is new, no two receivers have the same, and the blocked sends are those of the blocked messages
   pub record Tickets (s : State T S) : Type 0 where
-    pub new_send : get s.sends s.next ≡ None
-    pub new_receiver : entry_of s.next s.entries ≡ None
+    pub new_send : get s.sends s.next_ticket ≡ None
+    pub new_receiver : entry_of s.next_ticket s.entries ≡ None
     pub alone : (t : ℕ) → entry_of t (without_ticket t s.entries) ≡ None
     pub listed : (t : ℕ) → blocked_in (get s.sends t) ≡ has_ticket t (offers_of s.blocked)
     pub live : All (λ b. IsBlocked s.sends b.ticket) s.blocked
@@ -44,9 +44,9 @@ module _ {T A S : Type 0} where
   -- that is so
   pub tickets_of : (s : State T S) → IsReachable A s → Tickets s
   tickets_of s reachable = record {
-    new_send = new_send_at (get s.sends s.next) refl;
-    new_receiver = none_mapped bare _ (sym (bare_entry s.next s.entries) ∙ ap (entry_of s.next) h.entries_are
-        ∙ none_past (next_ticket o log) s.next (entries o log) (omega (arith, h.next_is)) (entries_apart o log h.run));
+    new_send = new_send_at (get s.sends s.next_ticket) refl;
+    new_receiver = none_mapped bare _ (sym (bare_entry s.next_ticket s.entries) ∙ ap (entry_of s.next_ticket) h.entries_are
+        ∙ none_past (next_ticket o log) s.next_ticket (entries o log) (omega (arith, h.next_is)) (entries_apart o log h.run));
     alone = λ t. none_mapped bare _ (sym (bare_entry t (without_ticket t s.entries))
         ∙ ap (entry_of t) (bare_without t s.entries ∙ ap (without_ticket t) h.entries_are)
         ∙ left_out (next_ticket o log) t (entries o log) (entries_apart o log h.run));
@@ -64,8 +64,8 @@ module _ {T A S : Type 0} where
       h : Represents o log s
       h = reachable.2
 
-      new_send_at : (x : Option (LiveSend S)) → get s.sends s.next ≡ x → x ≡ None
+      new_send_at : (x : Option (LiveSend S)) → get s.sends s.next_ticket ≡ x → x ≡ None
       new_send_at None e = refl
       new_send_at (Some send) e =
-          let below = (sends_apart o log s h s.next send.accepted (ap (option_map (λ x. x.accepted)) e)).0 in
+          let below = (sends_apart o log s h s.next_ticket send.accepted (ap (option_map (λ x. x.accepted)) e)).0 in
           absurd (omega (arith, below))

@@ -4,8 +4,8 @@ ghost use Rattle.std.specs.Prelude.{Option, Some, None};
 ghost use Rattle.flume_model.specs.Limits.{IsOpen, IsClosed, is_closed};
 ghost use Rattle.flume_model.specs.Entries.{entry_of, again, passes_on, leave_fills};
 ghost use Rattle.flume_model.specs.Entries.{round_for_fills, held_by};
-ghost use Rattle.flume_state.specs.Receivers.{receiver_status, looks, is_unfilled_block};
-ghost use Rattle.flume_state.specs.Receivers.{noticed_receiver, waits_on, only_leaves};
+ghost use Rattle.flume_state.specs.Receivers.{receiver_status, looks_at_line, is_unfilled_block};
+ghost use Rattle.flume_state.specs.Receivers.{with_receiver_notice, waits_on, only_leaves};
 ghost use Rattle.flume_state.specs.declared.entries.ReceiverStatus.TheVariants.{BlockWaiting};
 ghost use Rattle.flume_state.specs.declared.entries.ReceiverStatus.TheVariants.{Filled};
 ghost use Rattle.flume_state.specs.Effects.{with_front, after_take, without_receiver};
@@ -41,20 +41,21 @@ impl<T: Drop, S: Drop, A: Allocator + Copy> Chan<T, S, A> {
             → held_by (entry_of ticket self.old.entries) ≡ Some message
             → (result ≡ Reply.Got message) × (self.new ≡ without_receiver ticket self.old) }
         ensures got { (message : T) (rest : List T)
-            → looks (receiver_status ticket self.old.entries) ≡ true
+            → looks_at_line (receiver_status ticket self.old.entries) ≡ true
             → (with_front self.old).queue ≡ message ∷ rest
             → (result ≡ Reply.Got message)
             × (self.new ≡ without_receiver ticket (after_take rest self.old)) }
         ensures ended { (result ≡ Reply.Ended)
-            ↔ (looks (receiver_status ticket self.old.entries) ≡ true)
+            ↔ (looks_at_line (receiver_status ticket self.old.entries) ≡ true)
             × ((with_front self.old).queue ≡ []) × IsClosed self.old.senders self.old.receivers }
         ensures waiting { (result ≡ Reply.Waiting)
             ↔ (receiver_status ticket self.old.entries ≡ Some BlockWaiting)
-            ⊎ ((looks (receiver_status ticket self.old.entries) ≡ true)
+            ⊎ ((looks_at_line (receiver_status ticket self.old.entries) ≡ true)
             × ((with_front self.old).queue ≡ []) × IsOpen self.old.senders self.old.receivers) }
         ensures leaves_at_end { result ≡ Reply.Ended → self.new ≡ without_receiver ticket self.old }
         ensures waits { result ≡ Reply.Waiting → self.new ≡ with_peak
-            (again ticket (noticed_receiver (waits_on signal) ticket self.old.entries)) self.old }
+            (again ticket (with_receiver_notice (waits_on signal) ticket self.old.entries))
+            self.old }
         ensures unchanged { ChangesNothing (Step.Poll ticket) result → self.new ≡ self.old }
     {
         let Some(status) = self.entries.status(ticket) else {
@@ -158,7 +159,8 @@ impl<T: Drop, S: Drop, A: Allocator + Copy> Chan<T, S, A> {
     fn wait_on(&mut self, ticket: u64, signal: Option<S>)
         requires unfilled { held_by (entry_of ticket self.old.entries) ≡ None }
         ensures waits { self.new ≡ with_peak
-            (again ticket (noticed_receiver (waits_on signal) ticket self.old.entries)) self.old }
+            (again ticket (with_receiver_notice (waits_on signal) ticket self.old.entries))
+            self.old }
     {
         self.entries.wait_on(ticket, signal);
         self.count_waiting();

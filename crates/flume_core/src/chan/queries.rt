@@ -26,24 +26,24 @@ impl<T: Drop, S: Drop, A: Allocator + Copy> Chan<T, S, A> {
         Reply::Number(self.line.queued_len())
     }
 
-    /// Whether no message is queued, as a `Truth`.
+    /// Whether no message is queued, as a `Flag`.
     pub fn is_empty(&self) -> Reply<T, A>
         ensures step { Extends self.now Step.IsEmpty result self.now }
         ensures becomes_due { BecomesDue self.now Step.IsEmpty result self.now }
         ensures possible_reply { PossibleReply Step.IsEmpty result }
-        ensures truth { result ≡ Reply.Truth (length self.now.queue == 0) }
+        ensures flag { result ≡ Reply.Flag (length self.now.queue == 0) }
     {
-        Reply::Truth(self.line.queued_len() == 0)
+        Reply::Flag(self.line.queued_len() == 0)
     }
 
-    /// Whether the channel is bounded and its queue at or past its capacity, as a `Truth`.
+    /// Whether the channel is bounded and its queue at or past its capacity, as a `Flag`.
     pub fn is_full(&self) -> Reply<T, A>
         ensures step { Extends self.now Step.IsFull result self.now }
         ensures becomes_due { BecomesDue self.now Step.IsFull result self.now }
         ensures possible_reply { PossibleReply Step.IsFull result }
-        ensures truth { result ≡ Reply.Truth (is_full self.now.capacity (length self.now.queue)) }
+        ensures flag { result ≡ Reply.Flag (is_full self.now.capacity (length self.now.queue)) }
     {
-        Reply::Truth(!self.has_room())
+        Reply::Flag(!self.has_room())
     }
 
     /// The capacity, or `None` if unbounded.
@@ -76,14 +76,14 @@ impl<T: Drop, S: Drop, A: Allocator + Copy> Chan<T, S, A> {
         Reply::Number(self.receivers)
     }
 
-    /// Whether all senders or all receivers have been dropped, as a `Truth`.
+    /// Whether all senders or all receivers have been dropped, as a `Flag`.
     pub fn is_disconnected(&self) -> Reply<T, A>
         ensures step { Extends self.now Step.IsDisconnected result self.now }
         ensures becomes_due { BecomesDue self.now Step.IsDisconnected result self.now }
         ensures possible_reply { PossibleReply Step.IsDisconnected result }
-        ensures truth { result ≡ Reply.Truth (is_closed self.now.senders self.now.receivers) }
+        ensures flag { result ≡ Reply.Flag (is_closed self.now.senders self.now.receivers) }
     {
-        Reply::Truth(!self.is_open())
+        Reply::Flag(!self.is_open())
     }
 
     /// How many more messages can be stored before a send allocates; 0 at first. No step.

@@ -2,7 +2,8 @@
 ghost use Rattle.std.specs.Prelude.{◌≡◌, ◌≢◌, ◌<◌, ◌≤◌, ◌↔◌, ℕ, List, [], ◌∷◌};
 ghost use Rattle.std.specs.Prelude.{IfNone, IfSome, Option, None, Vec};
 ghost use Rattle.flume_model.specs.Limits.{IsOpen, IsClosed, most};
-ghost use Rattle.flume_state.specs.Effects.{after_admission, with_front, after_refill, after_take};
+ghost use Rattle.flume_state.specs.Effects.{after_admission, after_admission_if_room};
+ghost use Rattle.flume_state.specs.Effects.{after_take, with_front};
 ghost use Rattle.flume_state.specs.Effects.{after_admissions, with_peak, Begins};
 ghost use Rattle.flume_state.specs.State.{State};
 ghost use Rattle.flume_core.specs.Represents.{Extends, IsReachable, IsRefusal};
@@ -64,26 +65,26 @@ impl<T: Drop, S: Drop, A: Allocator + Copy> Chan<T, S, A> {
             ↔ ((with_front self.old).queue ≡ []) × IsClosed self.old.senders self.old.receivers }
         ensures spent { (result ≡ Reply.Spent None)
             ↔ ((with_front self.old).queue ≡ []) × IsOpen self.old.senders self.old.receivers
-            × (most ≤ self.old.next) }
+            × (most ≤ self.old.next_ticket) }
         ensures parked { (ticket : ℕ) → result ≡ Reply.Parked ticket
             → Begins self.old self.new ticket kind signal }
         ensures refused { (back : Option T) → result ≡ Reply.NoMemory back
             → ((with_front self.old).queue ≡ []) × IsOpen self.old.senders self.old.receivers
-            × (self.old.next < most) }
+            × (self.old.next_ticket < most) }
         ensures unchanged { IsRefusal result → self.new ≡ self.old }
     {
         match self.try_recv() {
             Reply::Empty => {}
             reply => return reply,
         }
-        let ticket = self.next;
+        let ticket = self.next_ticket;
         if ticket == u64::MAX {
             return Reply::Spent(None);
         }
         if self.entries.park(ticket, kind, signal).is_err() {
             return Reply::NoMemory(None);
         }
-        self.next = ticket + 1;
+        self.next_ticket = ticket + 1;
         self.count_waiting();
         Reply::Parked(ticket)
     }
@@ -128,12 +129,12 @@ impl<T: Drop, S: Drop, A: Allocator + Copy> Chan<T, S, A> {
         if self.line.blocked_len() == 0 {
             return self.line.take_queued();
         }
-        self.take_front_and_refill()
+        self.take_front_and_admit()
     }
 
     #[cold]
     #[inline(never)]
-    fn take_front_and_refill(&mut self) -> Option<T>
+    fn take_front_and_admit(&mut self) -> Option<T>
         ensures some { IfSome result (λ message. (rest : List T)
             × ((with_front self.old).queue ≡ message ∷ rest)
             × (self.new ≡ after_take rest self.old)) }
@@ -157,7 +158,7 @@ impl<T: Drop, S: Drop, A: Allocator + Copy> Chan<T, S, A> {
 
     #[inline(always)]
     fn refill(&mut self)
-        ensures refilled { self.new ≡ after_refill self.old }
+        ensures refilled { self.new ≡ after_admission_if_room self.old }
     {
         if self.has_room() {
             self.admit();

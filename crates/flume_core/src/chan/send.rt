@@ -4,7 +4,7 @@ ghost use Rattle.std.specs.Prelude.{length, Option, Some, None, true, false};
 ghost use Rattle.std.specs.FinMap.{get, insert, remove};
 ghost use Rattle.flume_model.specs.Limits.{IsOpen, IsClosed, IsAtCapacity, most};
 ghost use Rattle.flume_state.specs.Notices.{with_signal};
-ghost use Rattle.flume_state.specs.Sends.{newly_blocked, noticed_send};
+ghost use Rattle.flume_state.specs.Sends.{newly_blocked, with_send_notice};
 ghost use Rattle.flume_model.specs.Entries.{some_wait};
 ghost use Rattle.flume_state.specs.Effects.{Joins, Returns};
 ghost use Rattle.std.specs.List.{All};
@@ -76,18 +76,19 @@ impl<T: Drop, S: Drop, A: Allocator + Copy> Chan<T, S, A> {
             ↔ IsClosed self.old.senders self.old.receivers }
         ensures spent { (result ≡ Reply.Spent (Some message))
             ↔ IsOpen self.old.senders self.old.receivers × (some_wait self.old.entries ≡ false)
-            × IsAtCapacity self.old.capacity (length self.old.queue) × (most ≤ self.old.next) }
+            × IsAtCapacity self.old.capacity (length self.old.queue)
+            × (most ≤ self.old.next_ticket) }
         ensures sent { (filled : Option ℕ) → result ≡ Reply.Sent filled
             → Joins self.old self.new message filled }
         ensures waits { (ticket : ℕ) → result ≡ Reply.Pending ticket → FindsNoRoom self.old }
         ensures refused { result ≡ Reply.NoMemory (Some message)
             → message_count self.old < self.old.space → FindsNoRoom self.old }
-        ensures pending { result ≡ Reply.Pending self.old.next → self.new ≡ record self.old {
+        ensures pending { result ≡ Reply.Pending self.old.next_ticket → self.new ≡ record self.old {
           blocked = self.old.blocked
-              ++ record { ticket = self.old.next; message = message } ∷ [];
+              ++ record { ticket = self.old.next_ticket; message = message } ∷ [];
           space = self.new.space;
-          sends = insert self.old.sends self.old.next (newly_blocked signal);
-          next = self.old.next + 1;
+          sends = insert self.old.sends self.old.next_ticket (newly_blocked signal);
+          next_ticket = self.old.next_ticket + 1;
         } }
         ensures unchanged { IsRefusal result → self.new ≡ self.old }
     {
@@ -95,14 +96,14 @@ impl<T: Drop, S: Drop, A: Allocator + Copy> Chan<T, S, A> {
             Reply::Full(message) => message,
             reply => return reply,
         };
-        let ticket = self.next;
+        let ticket = self.next_ticket;
         if ticket == u64::MAX {
             return Reply::Spent(Some(message));
         }
         if let Err(back) = self.line.block(ticket, message, signal) {
             return Reply::NoMemory(Some(back));
         }
-        self.next = ticket + 1;
+        self.next_ticket = ticket + 1;
         Reply::Pending(ticket)
     }
 }
@@ -127,7 +128,7 @@ impl<T: Drop, S: Drop, A: Allocator + Copy> Chan<T, S, A> {
             ↔ (accepted_at self.old ticket ≡ Some false)
             × IsOpen self.old.senders self.old.receivers }
         ensures replaced { result ≡ Reply.Waiting → self.new ≡ record self.old {
-          sends = noticed_send (with_signal signal) ticket self.old.sends;
+          sends = with_send_notice (with_signal signal) ticket self.old.sends;
         } }
         ensures unchanged { IsRefusal result → self.new ≡ self.old }
     {
@@ -193,7 +194,7 @@ impl<T: Drop, S: Drop, A: Allocator + Copy> Chan<T, S, A> {
 
     fn replace_signal(&mut self, ticket: u64, signal: Option<S>)
         ensures replaced { self.new ≡ record self.old {
-          sends = noticed_send (with_signal signal) ticket self.old.sends;
+          sends = with_send_notice (with_signal signal) ticket self.old.sends;
         } }
     {
         if let Some(signal) = signal {

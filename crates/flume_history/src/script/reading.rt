@@ -11,22 +11,22 @@ use std::marker::Model;
 #[derive(Drop)]
 pub(crate) struct Pair<'s> {
     pub(crate) step: Step<u64>,
-    pub(crate) said: &'s [u8],
+    pub(crate) reply: &'s [u8],
 }
 
 impl<'s> Model for Pair<'s> {
     ghost Value = { Step ℕ × List ℕ };
 
-    ghost view = { λ pair. (pair.step, pair.said.now) };
+    ghost view = { λ pair. (pair.step, pair.reply.now) };
 }
 
 impl<'s> Line<'s> for Pair<'s> {
     ghost is_line = { IsPairLine };
 
     fn read(line: &'s [u8]) -> Option<Self> {
-        let (text, said) = parts_of(line)?;
+        let (text, reply) = parts_of(line)?;
         let step = step_of(text)?;
-        Some(Pair { step, said })
+        Some(Pair { step, reply })
     }
 }
 
@@ -34,11 +34,11 @@ impl<'s> Line<'s> for Pair<'s> {
 fn parts_of(line: &[u8]) -> Option<(&[u8], &[u8])>
     ensures parts { IfSome result (λ r. line.now ≡ r.0.now ++ codes " -> " ++ r.1.now) }
     ensures first { IfSome result (λ r. All (λ x. (x == 45) ≡ false) r.0.now) }
-    ensures none { IfNone result ((text said : List ℕ) → All (λ x. (x == 45) ≡ false) text
-        → ¬ (line.now ≡ text ++ codes " -> " ++ said)) }
+    ensures none { IfNone result ((text reply : List ℕ) → All (λ x. (x == 45) ≡ false) text
+        → ¬ (line.now ≡ text ++ codes " -> " ++ reply)) }
 {
     let (before, after) = part_at(line, b'-')?;
     let text = before.strip_suffix(b" ")?;
-    let said = after.strip_prefix(b"> ")?;
-    Some((text, said))
+    let reply = after.strip_prefix(b"> ")?;
+    Some((text, reply))
 }

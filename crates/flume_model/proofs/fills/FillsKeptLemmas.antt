@@ -3,7 +3,7 @@ use Rattle.flume_model.proofs.Common.{◌≡◌, ℕ, Bool, true, false, if◌th
 use Rattle.flume_model.proofs.Common.{◌∙◌, ap, eq-eqb, ne_eqb, Channel, is_filled, is_woken, round, round_fills, round_for, all_woken}
 use Rattle.flume_model.proofs.Common.{entry_of, without_ticket, held_in, held_by, Change, Queues, Takes, Parks, Asks, Collects, Leaves}
 use Rattle.flume_model.proofs.Common.{SenderLeaves, ReceiverLeaves, is_ticket, LogEntry, same_notice}
-use Rattle.flume_model.proofs.Common.{entries_after, Apart, Entry, Mark, Waiting}
+use Rattle.flume_model.proofs.Common.{entries_after, DistinctTickets, Entry, Mark, Waiting}
 use Rattle.flume_model.proofs.Common.{Woken, Filled, Kind, Block, Plain, Stream, Arm, arith, common_steps}
 use Rattle.flume_model.proofs.EntryListLemmas.{fills_none_else, round_for_push, again_cases, leave_cases}
 use Rattle.flume_model.proofs.EntryMarkLemmas.{apart_without}
@@ -84,7 +84,7 @@ module _ {T : Type 0} where
   held_by_change c closes _ t m h stays held = held
 
   -- the entry that a round fills holds the front after it
-  round_holds : (front : T) (n t : ℕ) (es : List (LogEntry T)) → Apart n es → round_fills es ≡ Some t
+  round_holds : (front : T) (n t : ℕ) (es : List (LogEntry T)) → DistinctTickets n es → round_fills es ≡ Some t
       → IsHeld t front (round same_notice front es)
   round_holds front n t [] apart is = absurd (let none : ⊥ = cc in none)
   round_holds front n t (x ∷ es) apart is = by_mark x.kind x.mark is (round_holds front n t es apart.2)
@@ -116,21 +116,22 @@ module _ {T : Type 0} where
   first_up c _ = c.queue
 
   -- after a change that fits, the entry that it fills holds the first of them
-  pub filled_holds : (c : Channel T) (closes : Bool) (done : Change T) (t : ℕ) → Fits c done → Apart c.next c.entries → fills done ≡ Some t
+  pub filled_holds : (c : Channel T) (closes : Bool) (done : Change T) (t : ℕ) → Fits c done → DistinctTickets c.next_ticket c.entries
+      → fills done ≡ Some t
       → (front : T) × (rest : List T) × (first_up c done ≡ front ∷ rest) × IsHeld t front (entries_after c.queue closes c.entries done)
   filled_holds c closes (Queues m filled) t h apart is = by_queue c.queue
     where
       by_queue : (waiting : List T) → (front : T) × (rest : List T) × (waiting ++ m ∷ [] ≡ front ∷ rest)
           × IsHeld t front (round_for same_notice (waiting ++ m ∷ []) c.entries)
-      by_queue [] = (m, [], refl, round_holds m c.next t c.entries apart (sym h.1 ∙ is))
-      by_queue (x ∷ waiting) = (x, waiting ++ m ∷ [], refl, round_holds x c.next t c.entries apart (sym h.1 ∙ is))
+      by_queue [] = (m, [], refl, round_holds m c.next_ticket t c.entries apart (sym h.1 ∙ is))
+      by_queue (x ∷ waiting) = (x, waiting ++ m ∷ [], refl, round_holds x c.next_ticket t c.entries apart (sym h.1 ∙ is))
   filled_holds c closes (Leaves u filled) t h apart is =
       leave_cases (λ es f. f ≡ Some t → (front : T) × (rest : List T) × (c.queue ≡ front ∷ rest) × IsHeld t front es) same_notice u c.queue
       c.entries (λ none by. absurd (let none : ⊥ = cc in none)) (λ passes front rest e by. (
         front,
         rest,
         e,
-        round_holds front c.next t (without_ticket u c.entries) (apart_without c.next u c.entries apart) by,
+        round_holds front c.next_ticket t (without_ticket u c.entries) (apart_without c.next_ticket u c.entries apart) by,
       )) (sym h.1 ∙ is)
   filled_holds c closes _ t h apart is = absurd (let none : ⊥ = cc in none)
 

@@ -2,7 +2,8 @@
 use Rattle.flume_model.proofs.Common.{◌≡◌, ℕ, ◌+◌, Bool, false, not, ◌&&◌, List, [], ◌∷◌, ◌++◌, drop, take, Option, Some, None, zero, suc}
 use Rattle.flume_model.proofs.Common.{refl, sym, ◌∙◌, ap, arith, inl, inr, ◌⊎◌, map, cond-false, append-nil, drop-append-le, map-append}
 use Rattle.flume_model.proofs.Common.{take_all, take-append-drop, slice_get_within, slice_get, channel, is_over, entry_of, held_by, FillIs}
-use Rattle.flume_model.proofs.Common.{IsOf, shows_to, shown, InOrder, line, boundary, queue, messages, Log, Opening, Offer, HandOut, Shown}
+use Rattle.flume_model.proofs.Common.{IsHandOutOf, shows_to, shown, InOrder, line, queue_len, queue, messages, Log}
+use Rattle.flume_model.proofs.Common.{Opening, Offer, HandOut, Shown}
 use Rattle.flume_model.proofs.Common.{FilledIn, Change, Queues, Takes, Collects, Leaves, change, fill, hands_out, kept, handed_out}
 use Rattle.flume_model.proofs.Common.{hand_outs}
 use Rattle.flume_model.proofs.Common.{LogEntry, entries_after, entries, is_closed_after, IsRun, Reply, Step, common_steps}
@@ -54,7 +55,7 @@ module _ {T : Type 0} where
 module _ {T A : Type 0} where
   -- the hand-out that filled the receiver with this ticket is of the message
   abbrev Fill : Opening → Log T A → ℕ → T → Type 0
-  Fill o log t m = IsOf (entries o log) log (FilledIn t) m
+  Fill o log t m = IsHandOutOf (entries o log) log (FilledIn t) m
 
   -- while a receiver is parked the channel isn't over
   stood_open : (o : Opening) (log : Log T A) (t : ℕ) (e : LogEntry T) → entry_of t (entries o log) ≡ Some e → is_over log ≡ false
@@ -110,7 +111,7 @@ module _ {T A : Type 0} where
       let x : Offer T = record { message = m; ticket = None } in
       let within = given_within (kept past) (handed_out past) shape.parts in
       let whole = shape.waits (fills_waiting (entries o past) t (sym h.1 ∙ is)) in
-      let queued : queue o past ≡ messages (line past) = ap messages (take_all (boundary o past) (line past) (omega arith)) in (
+      let queued : queue o past ≡ messages (line past) = ap messages (take_all (queue_len o past) (line past) (omega arith)) in (
         [],
         ap (λ l. messages (drop (hand_outs past) l)) (kept_more past x (not_withdrawn past m))
             ∙ ap messages (drop-append-le (hand_outs past) (kept past) (x ∷ []) within)
@@ -118,11 +119,11 @@ module _ {T A : Type 0} where
             ∙ ap (λ l. l ++ m ∷ []) (sym queued) ∙ sym (append-nil (queue o past ++ m ∷ [])),
       )
   first_are o past (Leaves u filled) t shape h open_ is =
-      let front = take (boundary o past) (line past) in
-      let later = drop (boundary o past) (line past) in (
+      let front = take (queue_len o past) (line past) in
+      let later = drop (queue_len o past) (line past) in (
         messages later,
         ap (λ l. messages (drop (hand_outs past) l)) (kept_same past) ∙ ap messages (sym (line_is_open past open_))
-            ∙ ap messages (sym (take-append-drop (boundary o past) (line past))) ∙ map-append (λ y. y.message) front later,
+            ∙ ap messages (sym (take-append-drop (queue_len o past) (line past))) ∙ map-append (λ y. y.message) front later,
       )
   first_are o past _ t shape h open_ is = absurd (let none : ⊥ = cc in none)
 
@@ -195,6 +196,6 @@ module _ {T A : Type 0} where
     where
       by_given : (given : HandOut T) → slice_get (handed_out log) j ≡ Some given
           → (offer : Offer T) × (slice_get (kept log) j ≡ Some offer) × ShownIs given offer.message
-          → (offer : Offer T) × (slice_get (kept log) j ≡ Some offer) × IsOf (entries o log) log given offer.message
+          → (offer : Offer T) × (slice_get (kept log) j ≡ Some offer) × IsHandOutOf (entries o log) log given offer.message
       by_given (Shown m) at h = h
       by_given (FilledIn t) at h = (h.0, h.1, fill_placed o log run j t h.0 at h.1)

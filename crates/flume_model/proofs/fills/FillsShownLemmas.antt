@@ -1,8 +1,8 @@
 -- What the replies of a run show to parked receivers: none while its entry is there, and the
 -- message that it holds as it leaves.
 use Rattle.flume_model.proofs.Common.{◌≡◌, ℕ, ◌≤◌, Bool, true, false, not, ◌&&◌, if◌then◌else◌, eqb, [], ◌∷◌, Option, Some, None, refl, sym}
-use Rattle.flume_model.proofs.Common.{◌∙◌, ap, arith, inl, inr, ◌⊎◌, eqb-true, eq-eqb, subst, cond-false, IsPolledMark, IsPolled}
-use Rattle.flume_model.proofs.Common.{IsGoneMark, IsGone, Channel, channel, is_over, entry_of, without_ticket}
+use Rattle.flume_model.proofs.Common.{◌∙◌, ap, arith, inl, inr, ◌⊎◌, eqb-true, eq-eqb, subst, cond-false, IsPollReplyByMark, IsPollReply}
+use Rattle.flume_model.proofs.Common.{IsWithdrawReplyByMark, IsWithdrawReply, Channel, channel, is_over, entry_of, without_ticket}
 use Rattle.flume_model.proofs.Common.{held_in, held_by, option_or, shows_to}
 use Rattle.flume_model.proofs.Common.{shown, next_ticket, queue, Log, Opening, Change, Takes, Parks, Collects, was_filled, change, LogEntry}
 use Rattle.flume_model.proofs.Common.{entries_after, entries, is_closed_after, IsReply, IsRun, Mark, Kind, Reply, Got, Step, Poll, Withdraw}
@@ -30,23 +30,24 @@ module _ {T : Type 0} where
   got_shows false u t m e = absurd (let none : ⊥ = cc in none)
 
   -- a filled receiver that asks gets what its entry holds, by its mark
-  asked_held : (A : Type 0) (c : Channel T) (k : Kind) (mark : Mark T) (y m : T) → IsPolledMark {A = A} c k mark (Got y)
+  asked_held : (A : Type 0) (c : Channel T) (k : Kind) (mark : Mark T) (y m : T) → IsPollReplyByMark {A = A} c k mark (Got y)
       → held_in mark ≡ Some m → y ≡ m
   asked_held A c k mark y m h holds = grind (arith, common_steps)
 
   -- a filled receiver that asks gets what its entry holds
-  polled_held : (A : Type 0) (c : Channel T) (found : Option (LogEntry T)) (y m : T) → IsPolled {A = A} c found (Got y)
+  polled_held : (A : Type 0) (c : Channel T) (found : Option (LogEntry T)) (y m : T) → IsPollReply {A = A} c found (Got y)
       → held_by found ≡ Some m → y ≡ m
   polled_held A c None y m h holds = absurd h
   polled_held A c (Some e) y m h holds = asked_held A c e.kind e.mark y m h holds
 
   -- a filled receiver that withdraws gets what its entry holds, by its mark
-  withdraw_held : (A : Type 0) (c : Channel T) (t : ℕ) (k : Kind) (mark : Mark T) (y m : T) → IsGoneMark {A = A} c t k mark (Got y)
+  withdraw_held : (A : Type 0) (c : Channel T) (t : ℕ) (k : Kind) (mark : Mark T) (y m : T)
+      → IsWithdrawReplyByMark {A = A} c t k mark (Got y)
       → held_in mark ≡ Some m → y ≡ m
   withdraw_held A c t k mark y m h holds = grind (arith, common_steps)
 
   -- a filled receiver that withdraws gets what its entry holds
-  gone_held : (A : Type 0) (c : Channel T) (t : ℕ) (found : Option (LogEntry T)) (y m : T) → IsGone {A = A} c t found (Got y)
+  gone_held : (A : Type 0) (c : Channel T) (t : ℕ) (found : Option (LogEntry T)) (y m : T) → IsWithdrawReply {A = A} c t found (Got y)
       → held_by found ≡ Some m → y ≡ m
   gone_held A c t None y m h holds = absurd h
   gone_held A c t (Some e) y m h holds = withdraw_held A c t e.kind e.mark y m h holds
@@ -56,8 +57,8 @@ module _ {T : Type 0} where
   neither first second none e = grind (arith, common_steps)
 
   -- a receiver parks under the next ticket
-  parks_next : (c : Channel T) (done : Change T) (t : ℕ) → Fits c done → parks_under done t ≡ true → c.next ≤ t
-  parks_next c (Parks u kind) t h e = let same : u ≡ c.next = h.3 in let is_it = eqb-true u t e in omega arith
+  parks_next : (c : Channel T) (done : Change T) (t : ℕ) → Fits c done → parks_under done t ≡ true → c.next_ticket ≤ t
+  parks_next c (Parks u kind) t h e = let same : u ≡ c.next_ticket = h.3 in let is_it = eqb-true u t e in omega arith
   parks_next c _ t h e = absurd (let none : ⊥ = cc in none)
 
 module _ {T A : Type 0} where

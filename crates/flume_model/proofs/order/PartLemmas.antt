@@ -2,7 +2,7 @@
 use Rattle.flume_model.proofs.Common.{◌≡◌, ℕ, ◌+◌, ◌≤◌, true, false, cond, List, [], ◌∷◌, ◌++◌, length, drop, take, Option, Some, refl, sym}
 use Rattle.flume_model.proofs.Common.{◌∙◌, ap, arith, length-append, length-take-le, drop_at, take-nil, append_assoc, take-append-drop}
 use Rattle.flume_model.proofs.Common.{AllZip-long, AllZip, IsBlocked, channel, is_over, some_wait, leave_fills, Rising}
-use Rattle.flume_model.proofs.Common.{◌<◌, IsAtCapacity, capacity, offers, line, boundary, queue, messages}
+use Rattle.flume_model.proofs.Common.{◌<◌, IsAtCapacity, capacity, offers, line, queue_len, queue, messages}
 use Rattle.flume_model.proofs.Common.{next_ticket, fill_count, Log, Opening, Offer}
 use Rattle.flume_model.proofs.Common.{HandOut, Shown, FilledIn, withdrawn, kept, handed_out, entries, common_steps}
 use Rattle.flume_model.proofs.LawfulReplyLemmas.{fills_none}
@@ -23,11 +23,11 @@ pub record Parts {T : Type 0} (all : List (Offer T)) (given : List (HandOut T)) 
 -- what holds of each run
 pub record Shape {T A : Type 0} (o : Opening) (log : Log T A) : Type 0 where
   pub parts : Parts (kept log) (handed_out log)
-  pub within : boundary o log ≤ length (line log)
+  pub within : queue_len o log ≤ length (line log)
   pub rising : Rising (next_ticket o log) (offers log)
-  pub full : boundary o log < length (line log) → IsAtCapacity (capacity o log) (boundary o log)
+  pub full : queue_len o log < length (line log) → IsAtCapacity (capacity o log) (queue_len o log)
   -- while a receiver waits the queue is the whole line
-  pub waits : some_wait (entries o log) ≡ true → boundary o log ≡ length (line log)
+  pub waits : some_wait (entries o log) ≡ true → queue_len o log ≡ length (line log)
   pub unissued : (t : ℕ) (m : T) → next_ticket o log ≤ t → withdrawn log (record { message = m; ticket = Some t }) ≡ false
 
 -- an offer to be withdrawn is behind these, which are at least what is queued, and before those
@@ -35,7 +35,7 @@ pub record Withdrawal {T A : Type 0} (o : Opening) (past : Log T A) (t : ℕ) (m
   pub front : List (Offer T)
   pub later : List (Offer T)
   pub rest_are : rest ≡ front ++ record { message = m; ticket = Some t } ∷ later
-  pub queued : boundary o past ≤ length front
+  pub queued : queue_len o past ≤ length front
 
 -- at most one receiver is filled
 pub at_most : (filled : Option ℕ) → fill_count filled ≤ 1
@@ -71,15 +71,15 @@ module _ {T : Type 0} where
 
 module _ {T A : Type 0} where
   -- if a blocked send is in the line
-  pub blocked_at : (o : Opening) (log : Log T A) (t : ℕ) (m : T) → boundary o log ≤ length (line log) → IsBlocked (channel o log) t m
+  pub blocked_at : (o : Opening) (log : Log T A) (t : ℕ) (m : T) → queue_len o log ≤ length (line log) → IsBlocked (channel o log) t m
       → (front : List (Offer T)) × (later : List (Offer T)) × (line log ≡ front ++ record { message = m; ticket = Some t } ∷ later)
-      × (boundary o log ≤ length front)
+      × (queue_len o log ≤ length front)
   blocked_at o log t m within h =
-      let long = length-take-le (boundary o log) (line log) within in
-      let front = take (boundary o log) (line log) in (
+      let long = length-take-le (queue_len o log) (line log) within in
+      let front = take (queue_len o log) (line log) in (
         front ++ h.1,
         h.2,
-        sym (take-append-drop (boundary o log) (line log)) ∙ ap (λ l. front ++ l) h.3 ∙ sym (append_assoc front h.1 _),
+        sym (take-append-drop (queue_len o log) (line log)) ∙ ap (λ l. front ++ l) h.3 ∙ sym (append_assoc front h.1 _),
         omega (arith, long, length-append front h.1),
       )
 
@@ -102,7 +102,7 @@ module _ {T A : Type 0} where
     where
       by_case : (some : List (Offer T)) → line past ≡ some → fill_count (leave_fills t (queue o past) (entries o past)) ≤ length (line past)
       by_case [] e =
-          let none : queue o past ≡ [] = ap (λ l. messages (take (boundary o past) l)) e ∙ ap messages (take-nil (boundary o past)) in
+          let none : queue o past ≡ [] = ap (λ l. messages (take (queue_len o past) l)) e ∙ ap messages (take-nil (queue_len o past)) in
           let nobody = ap fill_count (fills_none t (queue o past) (entries o past) none) in
           omega arith
       by_case (x ∷ rest) e = omega (arith, ap length e, at_most (leave_fills t (queue o past) (entries o past)))

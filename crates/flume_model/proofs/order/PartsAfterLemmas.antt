@@ -1,7 +1,7 @@
 -- Each change that fits leaves the parts of the kept offers so.
 use Rattle.flume_model.proofs.Common.{◌≡◌, ℕ, ◌≤◌, Bool, true, false, List, [], ◌∷◌, ◌++◌, length, drop, take, map, Option, Some, None}
 use Rattle.flume_model.proofs.Common.{refl, sym, ◌∙◌, ap, arith, take-nil, cond-true, append_assoc, append-nil, take-append-drop}
-use Rattle.flume_model.proofs.Common.{length_push, all_zipped_more, AllZip, IsFront, channel, is_over, leave_fills, line, boundary, queue}
+use Rattle.flume_model.proofs.Common.{length_push, all_zipped_more, AllZip, IsFront, channel, is_over, leave_fills, line, queue_len, queue}
 use Rattle.flume_model.proofs.Common.{messages, next_ticket, fill_count, Log, Opening, Offer, HandOut, Shown, FilledIn, Change, Queues}
 use Rattle.flume_model.proofs.Common.{Blocks, Withdraws, Takes, Drains, Leaves, fill, kept, handed_out, entries, common_steps}
 use Rattle.flume_model.proofs.LawfulReplyLemmas.{Fits}
@@ -81,12 +81,12 @@ module _ {T A : Type 0} where
             [],
             parts.rest,
             refl,
-            ap (λ l. messages (take (boundary o past) l)) none ∙ ap messages (take-nil (boundary o past)),
+            ap (λ l. messages (take (queue_len o past) l)) none ∙ ap messages (take-nil (queue_len o past)),
           )
       by_case false open_ = (
-        take (boundary o past) (line past),
-        drop (boundary o past) (line past),
-        sym (line_is_rest past parts open_) ∙ sym (take-append-drop (boundary o past) (line past)),
+        take (queue_len o past) (line past),
+        drop (queue_len o past) (line past),
+        sym (line_is_rest past parts open_) ∙ sym (take-append-drop (queue_len o past) (line past)),
         refl,
       )
 

@@ -1,8 +1,8 @@
 -- After each change that fits as much is queued as the line and the capacity allow.
 use Rattle.flume_model.proofs.Common.{◌≡◌, ℕ, ◌+◌, ◌-◌, ◌<◌, ◌≤◌, Bool, true, false, List, [], ◌∷◌, ◌++◌, length, max, Option, Some, None}
 use Rattle.flume_model.proofs.Common.{refl, sym, ◌∙◌, ap, arith, drop, length-append, suc, subst, length_push, length-drop, IsFront}
-use Rattle.flume_model.proofs.Common.{channel, is_over, some_wait, leave_fills, HasRoom, IsAtCapacity, line, queue, boundary}
-use Rattle.flume_model.proofs.Common.{boundary_after, capacity, capacity_after, next_ticket, fill_count, Log, Opening, Offer, Change}
+use Rattle.flume_model.proofs.Common.{channel, is_over, some_wait, leave_fills, HasRoom, IsAtCapacity, line, queue, queue_len}
+use Rattle.flume_model.proofs.Common.{queue_len_after, capacity, capacity_after, next_ticket, fill_count, Log, Opening, Offer, Change}
 use Rattle.flume_model.proofs.Common.{Queues, Blocks, Withdraws, Takes}
 use Rattle.flume_model.proofs.Common.{Drains, Leaves, Resizes, capped, kept, handed_out, entries, common_steps}
 use Rattle.flume_model.proofs.WaitListLemmas.{leave_fills_waiting}
@@ -37,7 +37,7 @@ unlike_true b no_ = grind (arith, common_steps)
 module _ {T A : Type 0} where
   -- as much is queued of a line as long
   room_same : (o : Opening) (past : Log T A) (done : Change T) → Shape o past → is_over past ≡ false → keeps_line done ≡ true
-      → Room (capacity o past) (boundary o past) (length (line_by past done))
+      → Room (capacity o past) (queue_len o past) (length (line_by past done))
   room_same o past done shape open_ keeps =
       let same : line_by past done ≡ line past = line_same past done keeps ∙ sym (line_is_open past open_) in
       rw same (record { in_line = shape.within; at_capacity = shape.full })
@@ -75,10 +75,10 @@ module _ {T A : Type 0} where
 
   -- if one that leaves fills another, one waits, so no sender is blocked
   full_left : (o : Opening) (past : Log T A) (t : ℕ) (filled : Option ℕ) → Shape o past
-      → filled ≡ leave_fills t (queue o past) (entries o past) → boundary o past < length (line past)
-      → IsAtCapacity (capacity o past) (boundary o past - fill_count filled)
+      → filled ≡ leave_fills t (queue o past) (entries o past) → queue_len o past < length (line past)
+      → IsAtCapacity (capacity o past) (queue_len o past - fill_count filled)
   full_left o past t None shape fills lt =
-      let same : boundary o past ≡ boundary o past - 0 = omega arith in
+      let same : queue_len o past ≡ queue_len o past - 0 = omega arith in
       subst (IsAtCapacity (capacity o past)) same (shape.full lt)
   full_left o past t (Some u) shape fills lt =
       let some = leave_fills_waiting t (queue o past) (entries o past) u (sym fills) in
@@ -87,7 +87,7 @@ module _ {T A : Type 0} where
   -- what is queued after a change that fits
   pub room_after : (o : Opening) (past : Log T A) (done : Change T) → Shape o past → Fits (channel o past) done → is_over past ≡ false
       → Room (capacity_after (capacity o past) done)
-      (boundary_after (capacity_after (capacity o past) done) (length (line_by past done)) (boundary o past) done)
+      (queue_len_after (capacity_after (capacity o past) done) (length (line_by past done)) (queue_len o past) done)
       (length (line_by past done))
   room_after o past (Queues m filled) shape h open_ =
       let long = long_queued o past m filled shape open_ in
@@ -95,7 +95,7 @@ module _ {T A : Type 0} where
       let one = at_most filled in
       record {
         in_line = omega arith;
-        at_capacity = λ lt. absurd (room_or_full (capacity o past) (boundary o past)
+        at_capacity = λ lt. absurd (room_or_full (capacity o past) (queue_len o past)
             (h.0.1 (unlike_true (some_wait (entries o past)) (λ some. omega (arith, shape.waits some)))) (shape.full (omega arith)));
       }
   room_after o past (Blocks m t) shape h open_ =
@@ -120,11 +120,11 @@ module _ {T A : Type 0} where
   room_after o past (Takes m None) shape h open_ =
       let long = long_taken o past m None shape h open_ in
       let n_within = shape.within in
-      room_taken (capacity o past) (boundary o past - 1) (length (line_by past (Takes m None))) (omega arith)
+      room_taken (capacity o past) (queue_len o past - 1) (length (line_by past (Takes m None))) (omega arith)
   room_after o past (Takes m (Some t)) shape h open_ =
       let long = long_taken o past m (Some t) shape h.0 open_ in
       let n_within = shape.within in
-      room_taken (capacity o past) (boundary o past - 1) (length (line_by past (Takes m (Some t)))) (omega arith)
+      room_taken (capacity o past) (queue_len o past - 1) (length (line_by past (Takes m (Some t)))) (omega arith)
   room_after o past (Drains list) shape h open_ = room_drained (capacity o past) (length (line_by past (Drains list)))
   room_after o past (Leaves t filled) shape h open_ =
       let long = long_left past t filled open_ in
@@ -137,5 +137,5 @@ module _ {T A : Type 0} where
       let same : length (line_by past (Resizes new)) ≡ length (line past) =
       ap length (line_same past (Resizes new) refl ∙ sym (line_is_open past open_)) in
       let n_within = shape.within in
-      room_taken (Some new) (boundary o past) (length (line_by past (Resizes new))) (omega arith)
+      room_taken (Some new) (queue_len o past) (length (line_by past (Resizes new))) (omega arith)
   room_after o past done shape h open_ = room_same o past done shape open_ refl

@@ -1,8 +1,8 @@
 -- What holds of each run: the laws.
 use Rattle.flume_model.proofs.Common.{◌≡◌, ℕ, Bool, true, false, List, [], ◌∷◌, ◌++◌, length, Some, zero, suc, refl, sym, ◌∙◌, ap, subst}
 use Rattle.flume_model.proofs.Common.{subst₂, not, ◌&&◌, arith, or_from, cond-true, cond-false, AllZip, slice_get, is_over, some_wait}
-use Rattle.flume_model.proofs.Common.{◌<◌, IsAtCapacity, Rising, next_ticket, offers, line, queue, boundary}
-use Rattle.flume_model.proofs.Common.{boundary_after, capacity, Log, Opening, Offer}
+use Rattle.flume_model.proofs.Common.{◌<◌, IsAtCapacity, Rising, next_ticket, offers, line, queue, queue_len}
+use Rattle.flume_model.proofs.Common.{queue_len_after, capacity, Log, Opening, Offer}
 use Rattle.flume_model.proofs.Common.{HandOut}
 use Rattle.flume_model.proofs.Common.{change, kept, handed_out, entries, entries_after, is_closed_after, IsRun, Reply, Step}
 use Rattle.flume_model.proofs.LawfulReplyLemmas.{fits, not_over_yet}
@@ -17,33 +17,33 @@ use Rattle.flume_model.proofs.order.WholeAfterLemmas.{waits_after}
 module _ {T A : Type 0} where
   -- what is queued of the line after one more pair
   room_more : (o : Opening) (past : Log T A) (p : Step T × Reply T A) → IsRun o (p ∷ past) → Shape o past
-      → Room (capacity o (p ∷ past)) (boundary o (p ∷ past)) (length (line (p ∷ past)))
+      → Room (capacity o (p ∷ past)) (queue_len o (p ∷ past)) (length (line (p ∷ past)))
   room_more o past p run shape = by_case (is_over (p ∷ past)) refl
     where
-      by_case : (b : Bool) → is_over (p ∷ past) ≡ b → Room (capacity o (p ∷ past)) (boundary o (p ∷ past)) (length (line (p ∷ past)))
+      by_case : (b : Bool) → is_over (p ∷ past) ≡ b → Room (capacity o (p ∷ past)) (queue_len o (p ∷ past)) (length (line (p ∷ past)))
       by_case true over =
-          let none : boundary o (p ∷ past) ≡ 0 = cond-true (is_over (p ∷ past)) 0 _ over in
+          let none : queue_len o (p ∷ past) ≡ 0 = cond-true (is_over (p ∷ past)) 0 _ over in
           let empty : line (p ∷ past) ≡ [] = cond-true (is_over (p ∷ past)) [] _ over in
           let long : length (line (p ∷ past)) ≡ 0 = ap length empty in
           record { in_line = omega arith; at_capacity = λ lt. absurd (omega arith) }
       by_case false open_ =
           let done = change past p.0 p.1 in
           let same : line (p ∷ past) ≡ line_by past done = line_is_open (p ∷ past) open_ in
-          let queued : boundary o (p ∷ past) ≡ boundary_after (capacity o (p ∷ past)) (length (line (p ∷ past))) (boundary o past) done =
+          let queued : queue_len o (p ∷ past) ≡ queue_len_after (capacity o (p ∷ past)) (length (line (p ∷ past))) (queue_len o past) done =
           cond-false (is_over (p ∷ past)) 0 _ open_ in
           let named = filled_if_named o past run.1 in
           let room = room_after o past done shape (fits o past p.0 p.1 named run.0) (not_over_yet o past p named run open_) in
           let R : ℕ → ℕ → Type 0 = λ n long. Room (capacity o (p ∷ past)) n long in
           let long : length (line (p ∷ past)) ≡ length (line_by past done) = ap length same in
-          let counted = queued ∙ ap (λ n. boundary_after (capacity o (p ∷ past)) n (boundary o past) done) long in
+          let counted = queued ∙ ap (λ n. queue_len_after (capacity o (p ∷ past)) n (queue_len o past) done) long in
           subst₂ R (sym counted) (sym long) room
 
   -- while a receiver waits after one more pair, the queue is the whole line
   waits_more : (o : Opening) (past : Log T A) (p : Step T × Reply T A) → IsRun o (p ∷ past) → Shape o past
-      → some_wait (entries o (p ∷ past)) ≡ true → boundary o (p ∷ past) ≡ length (line (p ∷ past))
+      → some_wait (entries o (p ∷ past)) ≡ true → queue_len o (p ∷ past) ≡ length (line (p ∷ past))
   waits_more o past p run shape some = by_case (is_over (p ∷ past)) refl
     where
-      by_case : (b : Bool) → is_over (p ∷ past) ≡ b → boundary o (p ∷ past) ≡ length (line (p ∷ past))
+      by_case : (b : Bool) → is_over (p ∷ past) ≡ b → queue_len o (p ∷ past) ≡ length (line (p ∷ past))
       by_case true over =
           let none : entries o (p ∷ past) ≡ [] = cond-true (is_over (p ∷ past)) [] _ over in
           let nobody : some_wait (entries o (p ∷ past)) ≡ false = ap some_wait none in
@@ -53,11 +53,11 @@ module _ {T A : Type 0} where
           let named = filled_if_named o past run.1 in
           let closes = not (is_closed_after past) && is_closed_after (p ∷ past) in
           let long : length (line (p ∷ past)) ≡ length (line_by past done) = ap length (line_is_open (p ∷ past) open_) in
-          let queued : boundary o (p ∷ past) ≡ boundary_after (capacity o (p ∷ past)) (length (line (p ∷ past))) (boundary o past) done =
+          let queued : queue_len o (p ∷ past) ≡ queue_len_after (capacity o (p ∷ past)) (length (line (p ∷ past))) (queue_len o past) done =
           cond-false (is_over (p ∷ past)) 0 _ open_ in
           let parked : entries o (p ∷ past) ≡ entries_after (queue o past) closes (entries o past) done =
           cond-false (is_over (p ∷ past)) [] _ open_ in
-          queued ∙ ap (λ n. boundary_after (capacity o (p ∷ past)) n (boundary o past) done) long
+          queued ∙ ap (λ n. queue_len_after (capacity o (p ∷ past)) n (queue_len o past) done) long
           ∙ waits_after o past done closes shape (fits o past p.0 p.1 named run.0) (not_over_yet o past p named run open_)
           (sym (ap some_wait parked) ∙ some) ∙ sym long
 
@@ -109,10 +109,10 @@ module _ {T A : Type 0} where
   tickets_rise o log run = (shape_of o log run).rising
 
   -- a sender is blocked only if the queue is at capacity
-  pub blocked_at_capacity : (o : Opening) (log : Log T A) → IsRun o log → boundary o log < length (line log)
-      → IsAtCapacity (capacity o log) (boundary o log)
+  pub blocked_at_capacity : (o : Opening) (log : Log T A) → IsRun o log → queue_len o log < length (line log)
+      → IsAtCapacity (capacity o log) (queue_len o log)
   blocked_at_capacity o log run = (shape_of o log run).full
 
   -- while a receiver waits the queue is the whole line
-  pub waits_whole : (o : Opening) (log : Log T A) → IsRun o log → some_wait (entries o log) ≡ true → boundary o log ≡ length (line log)
+  pub waits_whole : (o : Opening) (log : Log T A) → IsRun o log → some_wait (entries o log) ≡ true → queue_len o log ≡ length (line log)
   waits_whole o log run = (shape_of o log run).waits

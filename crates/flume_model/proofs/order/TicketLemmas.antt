@@ -3,7 +3,7 @@ use Rattle.flume_model.proofs.Common.{◌≡◌, ℕ, ◌<◌, true, false, not,
 use Rattle.flume_model.proofs.Common.{◌∙◌, ◌⊎◌, inl, inr, ap, arith, ne_eqb, eqb-true, eq-eqb, eqb, Option, and_parts, or_cases, or_left}
 use Rattle.flume_model.proofs.Common.{or_right, append_assoc, append-nil, take-append-drop, take_at, take-append-le, any-filter_same}
 use Rattle.flume_model.proofs.Common.{AllZip-long, filter, has_ticket, channel, is_over, IsEarlier, Rising}
-use Rattle.flume_model.proofs.Common.{line, boundary, blocked, next_ticket, issues, spends, is_live, Log, Opening}
+use Rattle.flume_model.proofs.Common.{line, queue_len, blocked, next_ticket, issues, spends, is_live, Log, Opening}
 use Rattle.flume_model.proofs.Common.{Offer, Change, Queues, Blocks, Withdraws, is_ticket, change, withdrawn, offers, kept, handed_out}
 use Rattle.flume_model.proofs.Common.{hand_outs, IsRun, Reply, Step}
 use Rattle.flume_model.proofs.TicketLemmas.{filter_two, has_ticket-append, ticket_place, All-at_seam, rising_filter}
@@ -135,11 +135,11 @@ module _ {T A : Type 0} where
       → has_ticket t (blocked o log) ≡ false → has_ticket u (blocked o log) ≡ true → t < u
   accepted_below_blocked o log run t u live taken waits =
       let gone = take (hand_outs log) (kept log) in
-      let queued = take (boundary o log) (line log) in
+      let queued = take (queue_len o log) (line log) in
       let open_ = live_open log t live in
       let all : kept log ≡ (gone ++ queued) ++ blocked o log =
       sym (take-append-drop (hand_outs log) (kept log)) ∙ ap (λ l. gone ++ l) (sym (line_is_open log open_))
-      ∙ ap (λ l. gone ++ l) (sym (take-append-drop (boundary o log) (line log))) ∙ sym (append_assoc gone queued (blocked o log)) in
+      ∙ ap (λ l. gone ++ l) (sym (take-append-drop (queue_len o log) (line log))) ∙ sym (append_assoc gone queued (blocked o log)) in
       let rising = rising_filter (next_ticket o log) (λ offer. not (withdrawn log offer)) (offers log) (shape_of o log run).rising in
       let has : (has_ticket t (gone ++ queued) || has_ticket t (blocked o log)) ≡ true =
       sym (has_ticket-append t (gone ++ queued) (blocked o log)) ∙ ap (has_ticket t) (sym all) ∙ live_are_kept o log run t live in

@@ -2,7 +2,7 @@
 use Rattle.flume_model.proofs.Common.{◌≡◌, ℕ, ◌-◌, Bool, true, false, if◌then◌else◌, List, [], ◌∷◌, ◌++◌, length, max, Option, Some, None}
 use Rattle.flume_model.proofs.Common.{refl, sym, ◌∙◌, ◌⊎◌, inl, inr, ap, arith, take, length-append, length-take-le, length-map, channel}
 use Rattle.flume_model.proofs.Common.{is_over, is_woken, some_wait, entry_of, all_woken, line, queue}
-use Rattle.flume_model.proofs.Common.{boundary, boundary_after, capacity, capacity_after, Log}
+use Rattle.flume_model.proofs.Common.{queue_len, queue_len_after, capacity, capacity_after, Log}
 use Rattle.flume_model.proofs.Common.{Opening, Change, Queues, Blocks, Withdraws, Takes, Drains, Parks, Asks, Collects, Leaves}
 use Rattle.flume_model.proofs.Common.{SenderLeaves, ReceiverLeaves, Resizes, capped, LogEntry, same_notice}
 use Rattle.flume_model.proofs.Common.{entries, entries_after, common_steps}
@@ -31,14 +31,14 @@ module _ {T : Type 0} where
 module _ {T A : Type 0} where
   -- if the entries stay and so does the line, the queue is the whole line as before
   waits_same : (o : Opening) (past : Log T A) (done : Change T) → Shape o past → is_over past ≡ false → keeps_line done ≡ true
-      → some_wait (entries o past) ≡ true → boundary o past ≡ length (line_by past done)
+      → some_wait (entries o past) ≡ true → queue_len o past ≡ length (line_by past done)
   waits_same o past done shape open_ keeps some =
       shape.waits some ∙ sym (ap length (line_same past done keeps ∙ sym (line_is_open past open_)))
 
   -- while a receiver waits after a change that fits, the queue is the whole line
   pub waits_after : (o : Opening) (past : Log T A) (done : Change T) (closes : Bool) → Shape o past → Fits (channel o past) done
       → is_over past ≡ false → some_wait (entries_after (queue o past) closes (entries o past) done) ≡ true
-      → boundary_after (capacity_after (capacity o past) done) (length (line_by past done)) (boundary o past) done ≡ length
+      → queue_len_after (capacity_after (capacity o past) done) (length (line_by past done)) (queue_len o past) done ≡ length
       (line_by past done)
   waits_after o past (Queues m filled) closes shape h open_ some =
       let long = long_queued o past m filled shape open_ in
@@ -54,15 +54,15 @@ module _ {T A : Type 0} where
   waits_after o past (Takes m None) closes shape h open_ some =
       let long = long_taken o past m None shape h open_ in
       let before = shape.waits some in
-      taken_whole (capacity o past) (boundary o past - 1) (length (line_by past (Takes m None))) (omega arith)
+      taken_whole (capacity o past) (queue_len o past - 1) (length (line_by past (Takes m None))) (omega arith)
   waits_after o past (Takes m (Some t)) closes shape h open_ some =
       let long = long_taken o past m (Some t) shape h.0 open_ in
       let before = shape.waits (wait_without t (entries o past) some) in
-      taken_whole (capacity o past) (boundary o past - 1) (length (line_by past (Takes m (Some t)))) (omega arith)
+      taken_whole (capacity o past) (queue_len o past - 1) (length (line_by past (Takes m (Some t)))) (omega arith)
   waits_after o past (Drains list) closes shape h open_ some =
       let before = shape.waits some in
-      let drained : length list ≡ length (line past) = ap length h ∙ length-map (take (boundary o past) (line past)) (λ x. x.message)
-      ∙ length-take-le (boundary o past) (line past) shape.within ∙ before in
+      let drained : length list ≡ length (line past) = ap length h ∙ length-map (take (queue_len o past) (line past)) (λ x. x.message)
+      ∙ length-take-le (queue_len o past) (line past) shape.within ∙ before in
       let long = long_drained past list open_ in
       let none : length (line_by past (Drains list)) ≡ 0 = omega arith in
       rw none (capped_none (capacity o past))
@@ -76,7 +76,7 @@ module _ {T A : Type 0} where
     where
       by_cases : (some_wait (entries o past) ≡ true)
           ⊎ ((e : LogEntry T) × (entry_of t (entries o past) ≡ Some e) × (is_woken e.mark ≡ true))
-          → boundary o past ≡ length (line_by past (Asks t))
+          → queue_len o past ≡ length (line_by past (Asks t))
       by_cases (inl one) = waits_same o past (Asks t) shape open_ refl one
       by_cases (inr woken) =
           let is : woken.0 ≡ h.0 = (let found = woken.1 in let same = h.1 in cc) in
@@ -97,6 +97,6 @@ module _ {T A : Type 0} where
   waits_after o past ReceiverLeaves closes shape h open_ some =
       waits_same o past ReceiverLeaves shape open_ refl (wait_closing closes (entries o past) some)
   waits_after o past (Resizes new) closes shape h open_ some =
-      taken_whole (Some new) (boundary o past) (length (line_by past (Resizes new)))
+      taken_whole (Some new) (queue_len o past) (length (line_by past (Resizes new)))
       (waits_same o past (Resizes new) shape open_ refl some)
   waits_after o past done closes shape h open_ some = waits_same o past done shape open_ refl some

@@ -5,7 +5,7 @@ use Rattle.flume_model.proofs.Common.{ap, arith, inl, inr, drop, take, length, s
 use Rattle.flume_model.proofs.Common.{map-append, drop-map, take_all, length-map, sum_by-cons, sum_by-append, sum_by_push, channel}
 use Rattle.flume_model.proofs.Common.{held_messages}
 use Rattle.flume_model.proofs.Common.{is_over, is_woken, is_filled, some_wait, round_fills, all_woken, entry_of, without_ticket, again}
-use Rattle.flume_model.proofs.Common.{after_leave, leave_fills, HasRoom, line, capacity, boundary, queue, messages, fill_count, Log}
+use Rattle.flume_model.proofs.Common.{after_leave, leave_fills, HasRoom, line, capacity, queue_len, queue, messages, fill_count, Log}
 use Rattle.flume_model.proofs.Common.{Opening, Offer}
 use Rattle.flume_model.proofs.Common.{Change, Queues, Blocks, Withdraws, Takes, Drains, Parks, Asks, Collects, Leaves, SenderLeaves}
 use Rattle.flume_model.proofs.Common.{ReceiverLeaves, change, offers_made, LogEntry, same_notice, new_entry, entries_after, entries, IsRun}
@@ -69,22 +69,22 @@ module _ {T A : Type 0} where
 
   -- if a message is taken in at once, all of the line is queued
   queue_whole : (o : Opening) (past : Log T A) → IsRun o past
-      → (some_wait (entries o past) ≡ false → HasRoom (capacity o past) (boundary o past)) → queue o past ≡ messages (line past)
-  queue_whole o past run room = ap messages (take_all (boundary o past) (line past) (by_case (some_wait (entries o past)) refl))
+      → (some_wait (entries o past) ≡ false → HasRoom (capacity o past) (queue_len o past)) → queue o past ≡ messages (line past)
+  queue_whole o past run room = ap messages (take_all (queue_len o past) (line past) (by_case (some_wait (entries o past)) refl))
     where
-      by_case : (b : Bool) → some_wait (entries o past) ≡ b → length (line past) ≤ boundary o past
+      by_case : (b : Bool) → some_wait (entries o past) ≡ b → length (line past) ≤ queue_len o past
       by_case true some = let whole = (shape_of o past run).waits some in omega arith
       by_case false none =
-          elim (cases_lt (boundary o past) (length (line past))) as (λ _. length (line past) ≤ boundary o past) [
-            | inl lt ↦ absurd (room_or_full (capacity o past) (boundary o past) (room none) ((shape_of o past run).full lt))
+          elim (cases_lt (queue_len o past) (length (line past))) as (λ _. length (line past) ≤ queue_len o past) [
+            | inl lt ↦ absurd (room_or_full (capacity o past) (queue_len o past) (room none) ((shape_of o past run).full lt))
             | inr le ↦ le
           ]
 
   -- what isn't queued is behind the queue
-  queue_behind : (o : Opening) (past : Log T A) → messages (line past) ≡ queue o past ++ messages (drop (boundary o past) (line past))
+  queue_behind : (o : Opening) (past : Log T A) → messages (line past) ≡ queue o past ++ messages (drop (queue_len o past) (line past))
   queue_behind o past =
-      ap messages (sym (take-append-drop (boundary o past) (line past)))
-      ∙ map-append (λ offer. offer.message) (take (boundary o past) (line past)) (drop (boundary o past) (line past))
+      ap messages (sym (take-append-drop (queue_len o past) (line past)))
+      ∙ map-append (λ offer. offer.message) (take (queue_len o past) (line past)) (drop (queue_len o past) (line past))
 
   -- if the line stays
   balanced_same : (weight : T → ℕ) (o : Opening) (past : Log T A) (p : Step T × Reply T A) (closes : Bool) (done : Change T)
@@ -109,9 +109,9 @@ module _ {T A : Type 0} where
       ≡ weighs weight (line past) + sum_by weight (held_messages (entries o past))) same_notice t (queue o past) (entries o past)
       (λ none. omega arith)
       (λ passes front rest queued.
-      (let all : messages (line past) ≡ front ∷ rest ++ messages (drop (boundary o past) (line past)) = queue_behind o past
-      ∙ ap (λ l. l ++ messages (drop (boundary o past) (line past))) queued in
-      let rounded = round_front weight same_notice front (rest ++ messages (drop (boundary o past) (line past)))
+      (let all : messages (line past) ≡ front ∷ rest ++ messages (drop (queue_len o past) (line past)) = queue_behind o past
+      ∙ ap (λ l. l ++ messages (drop (queue_len o past) (line past))) queued in
+      let rounded = round_front weight same_notice front (rest ++ messages (drop (queue_len o past) (line past)))
       (without_ticket t (entries o past)) in
       let whole = ap (sum_by weight) all in
       let dropped = ap (λ l. sum_by weight (drop (fill_count (round_fills (without_ticket t (entries o past)))) l)) all in
@@ -168,7 +168,7 @@ module _ {T A : Type 0} where
       let none = unfilled_weighs weight unfilled.entry.mark unfilled.empty in
       omega arith
   balanced_by weight o past p closes (Drains list) e run h given g open_ still =
-      let n = boundary o past in
+      let n = queue_len o past in
       let front_long = length-take-le n (line past) (shape_of o past run).within in
       let long : length list ≡ length (take n (line past)) = ap length h ∙ length-map (take n (line past)) (λ offer. offer.message) in
       let next = ap (weighs weight) (line_drains o past p list (take n (line past)) (drop n (line past)) run e open_

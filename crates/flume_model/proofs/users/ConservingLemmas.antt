@@ -2,7 +2,7 @@
 use Rattle.flume_model.proofs.Common.{◌≡◌, ℕ, ◌+◌, ◌≤◌, Bool, true, false, List, [], ◌∷◌, Some, None, refl, ◌∙◌, ap, arith, take, sum_by}
 use Rattle.flume_model.proofs.Common.{subst, take-nil, sum_by-append, channel, held_messages, gives, given_out, IsConserved, Conserved}
 use Rattle.flume_model.proofs.Common.{is_over}
-use Rattle.flume_model.proofs.Common.{entry_of, line, boundary, messages, Log, Opening, Change, Withdraws, Takes, Drains, Collects}
+use Rattle.flume_model.proofs.Common.{entry_of, line, queue_len, messages, Log, Opening, Change, Withdraws, Takes, Drains, Collects}
 use Rattle.flume_model.proofs.Common.{SenderJoins, ReceiverJoins, SenderLeaves, ReceiverLeaves, change, offers_made, offers, entries, IsRun}
 use Rattle.flume_model.proofs.Common.{Reply, Step}
 use Rattle.flume_model.proofs.LawfulReplyLemmas.{Fits, not_over_yet}
@@ -31,7 +31,7 @@ module _ {T A : Type 0} where
       let is_open = open_at past [] front.1 front.0 front.2 in
       absurd (let none : ⊥ = cc in none)
   open_gives o past run (Drains list) h given g over =
-      g ∙ h ∙ ap (λ l. messages (take (boundary o past) l)) (line_over past over) ∙ ap messages (take-nil (boundary o past))
+      g ∙ h ∙ ap (λ l. messages (take (queue_len o past) l)) (line_over past over) ∙ ap messages (take-nil (queue_len o past))
   open_gives o past run (Collects t) h given g over =
       let nobody : entry_of t (entries o past) ≡ None = ap (entry_of t) (nobody_once_over o past over) in
       let found = g.2 in

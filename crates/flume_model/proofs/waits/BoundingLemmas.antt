@@ -2,9 +2,9 @@
 -- and the most that waited at once.
 use Rattle.flume_model.proofs.Common.{◌≡◌, ℕ, ◌+◌, ◌-◌, ◌≤◌, Bool, true, false, if◌then◌else◌, List, [], ◌∷◌, length, Option, Some, None}
 use Rattle.flume_model.proofs.Common.{refl, sym, ◌∙◌, ap, arith, max, subst, subst₂, cond-true, Channel, channel, is_over, is_woken}
-use Rattle.flume_model.proofs.Common.{some_wait, waiting_count, round, round_fills, all_woken, entry_of, without_ticket, HasRoom, boundary}
+use Rattle.flume_model.proofs.Common.{some_wait, waiting_count, round, round_fills, all_woken, entry_of, without_ticket, HasRoom, queue_len}
 use Rattle.flume_model.proofs.Common.{capacity}
-use Rattle.flume_model.proofs.Common.{boundary_after, capacity_after, greater, greatest, fill_count, Log, Opening, Change, Queues, Takes}
+use Rattle.flume_model.proofs.Common.{queue_len_after, capacity_after, greater, greatest, fill_count, Log, Opening, Change, Queues, Takes}
 use Rattle.flume_model.proofs.Common.{Drains, Parks, Asks, Collects, Leaves}
 use Rattle.flume_model.proofs.Common.{SenderLeaves, ReceiverLeaves, Resizes, change, capped, LogEntry, same_notice, entries_after, entries}
 use Rattle.flume_model.proofs.Common.{peak, IsRun}
@@ -65,85 +65,85 @@ module _ {T : Type 0} where
   fewer_without t e es found = let counts = without_counts t e es found in let waiting = counts.waiting in omega arith
 
   -- if an end leaves
-  leaves_close : (c : Channel T) (closes : Bool) → LeavesWithin c.capacity (c.boundary + waiting_count c.entries) c.boundary
+  leaves_close : (c : Channel T) (closes : Bool) → LeavesWithin c.capacity (c.queue_len + waiting_count c.entries) c.queue_len
       (waiting_count (if closes then all_woken same_notice c.entries else c.entries))
   leaves_close c true = NoMore (let none = woken_uncounted c.entries in omega arith)
   leaves_close c false = NoMore (omega arith)
 
   -- if nobody more waits, and no more is queued than the capacity and, while a receiver waits, than
   -- before
-  leaves_fewer : (c : Channel T) (queued waits : ℕ) → waits ≤ waiting_count c.entries → (some_wait c.entries ≡ true → queued ≤ c.boundary)
-      → IsWithinCapacity c.capacity (c.boundary + waiting_count c.entries) queued
-      → LeavesWithin c.capacity (c.boundary + waiting_count c.entries) queued waits
+  leaves_fewer : (c : Channel T) (queued waits : ℕ) → waits ≤ waiting_count c.entries → (some_wait c.entries ≡ true → queued ≤ c.queue_len)
+      → IsWithinCapacity c.capacity (c.queue_len + waiting_count c.entries) queued
+      → LeavesWithin c.capacity (c.queue_len + waiting_count c.entries) queued waits
   leaves_fewer c queued waits few some within = by_case (some_wait c.entries) refl
     where
-      by_case : (b : Bool) → some_wait c.entries ≡ b → LeavesWithin c.capacity (c.boundary + waiting_count c.entries) queued waits
+      by_case : (b : Bool) → some_wait c.entries ≡ b → LeavesWithin c.capacity (c.queue_len + waiting_count c.entries) queued waits
       by_case true e = let le = some e in NoMore (omega arith)
       by_case false e = let none = counted_none c.entries e in NoneWaits (omega arith) within
 
   -- if a message joined the queue
-  leaves_queued : (c : Channel T) (front : T) → (some_wait c.entries ≡ false → HasRoom c.capacity c.boundary)
-      → LeavesWithin c.capacity (c.boundary + waiting_count c.entries) (c.boundary + 1 - fill_count (round_fills c.entries))
+  leaves_queued : (c : Channel T) (front : T) → (some_wait c.entries ≡ false → HasRoom c.capacity c.queue_len)
+      → LeavesWithin c.capacity (c.queue_len + waiting_count c.entries) (c.queue_len + 1 - fill_count (round_fills c.entries))
       (waiting_count (round same_notice front c.entries))
   leaves_queued c front room = by_case (some_wait c.entries) refl
     where
       by_case : (b : Bool) → some_wait c.entries ≡ b
-          → LeavesWithin c.capacity (c.boundary + waiting_count c.entries) (c.boundary + 1 - fill_count (round_fills c.entries))
+          → LeavesWithin c.capacity (c.queue_len + waiting_count c.entries) (c.queue_len + 1 - fill_count (round_fills c.entries))
           (waiting_count (round same_notice front c.entries))
       by_case true e = let fewer = (round_counts same_notice front c.entries).fewer e in NoMore (omega arith)
       by_case false e =
           let none = counted_none c.entries e in
           let no_more = (round_counts same_notice front c.entries).no_more in
           let fills = fills_nobody c.entries e in
-          let same : c.boundary + 1 ≡ c.boundary + 1 - fill_count (round_fills c.entries) = omega arith in
-          let Within : ℕ → Type 0 = λ n. IsWithinCapacity c.capacity (c.boundary + waiting_count c.entries) n in
-          NoneWaits (omega arith) (subst Within same (room_within c.capacity (c.boundary + waiting_count c.entries) c.boundary (room e)))
+          let same : c.queue_len + 1 ≡ c.queue_len + 1 - fill_count (round_fills c.entries) = omega arith in
+          let Within : ℕ → Type 0 = λ n. IsWithinCapacity c.capacity (c.queue_len + waiting_count c.entries) n in
+          NoneWaits (omega arith) (subst Within same (room_within c.capacity (c.queue_len + waiting_count c.entries) c.queue_len (room e)))
 
   -- after a change that fits
-  leaves_by : (c : Channel T) (closes : Bool) (done : Change T) (n : ℕ) → Stood c → Fits c done → Long c done n
-      → boundary_after (capacity_after c.capacity done) n c.boundary done ≤ n
-      → LeavesWithin (capacity_after c.capacity done) (c.boundary + waiting_count c.entries)
-      (boundary_after (capacity_after c.capacity done) n c.boundary done)
+  leaves_step : (c : Channel T) (closes : Bool) (done : Change T) (n : ℕ) → Stood c → Fits c done → Long c done n
+      → queue_len_after (capacity_after c.capacity done) n c.queue_len done ≤ n
+      → LeavesWithin (capacity_after c.capacity done) (c.queue_len + waiting_count c.entries)
+      (queue_len_after (capacity_after c.capacity done) n c.queue_len done)
       (waiting_count (entries_after c.queue closes c.entries done))
-  leaves_by c closes (Queues m filled) n stood h long within =
-      let LeavesBy : Option ℕ → Type 0 = λ f. LeavesWithin c.capacity (c.boundary + waiting_count c.entries)
-      (c.boundary + 1 - fill_count f) (waiting_count (entries_after c.queue closes c.entries (Queues m filled))) in
+  leaves_step c closes (Queues m filled) n stood h long within =
+      let LeavesBy : Option ℕ → Type 0 = λ f. LeavesWithin c.capacity (c.queue_len + waiting_count c.entries)
+      (c.queue_len + 1 - fill_count f) (waiting_count (entries_after c.queue closes c.entries (Queues m filled))) in
       subst LeavesBy (sym h.1) (round_for_push
-      (λ es. LeavesWithin c.capacity (c.boundary + waiting_count c.entries) (c.boundary + 1 - fill_count (round_fills c.entries))
+      (λ es. LeavesWithin c.capacity (c.queue_len + waiting_count c.entries) (c.queue_len + 1 - fill_count (round_fills c.entries))
       (waiting_count es)) same_notice c.queue m c.entries (λ front. leaves_queued c front h.0.1))
-  leaves_by c closes (Takes m None) n stood h long within =
+  leaves_step c closes (Takes m None) n stood h long within =
       leaves_fewer c _ (waiting_count c.entries) (omega arith) (λ some. (let whole = stood.whole some in omega arith))
-      (taken_within c.capacity n c.boundary _ (omega arith))
-  leaves_by c closes (Takes m (Some t)) n stood h long within =
+      (taken_within c.capacity n c.queue_len _ (omega arith))
+  leaves_step c closes (Takes m (Some t)) n stood h long within =
       leaves_fewer c _ (waiting_count (without_ticket t c.entries)) (fewer_without t h.1.entry c.entries h.1.found)
-      (λ some. (let whole = stood.whole some in omega arith)) (taken_within c.capacity n c.boundary _ (omega arith))
-  leaves_by c closes (Drains list) n stood h long within =
+      (λ some. (let whole = stood.whole some in omega arith)) (taken_within c.capacity n c.queue_len _ (omega arith))
+  leaves_step c closes (Drains list) n stood h long within =
       leaves_fewer c _ (waiting_count c.entries) (omega arith) (λ some. (let whole = stood.whole some in omega arith))
       (drained_within c.capacity n _)
-  leaves_by c closes (Parks t kind) n stood h long within =
+  leaves_step c closes (Parks t kind) n stood h long within =
       OnlyWaits (let empty = ap length h.0 in let in_line = stood.within in omega arith)
-  leaves_by c closes (Asks t) n stood h long within =
-      again_cases (λ es. LeavesWithin c.capacity (c.boundary + waiting_count c.entries) c.boundary (waiting_count es)) t c.entries
+  leaves_step c closes (Asks t) n stood h long within =
+      again_cases (λ es. LeavesWithin c.capacity (c.queue_len + waiting_count c.entries) c.queue_len (waiting_count es)) t c.entries
       (NoMore (omega arith))
       (λ e found woken.
       (let same : h.0 ≡ e = cc in
       let empty = ap length (h.2 (ap (λ x. is_woken x.mark) same ∙ woken)).0 in
       let in_line = stood.within in
       OnlyWaits (omega arith)))
-  leaves_by c closes (Collects t) n stood h long within =
+  leaves_step c closes (Collects t) n stood h long within =
       NoMore (let fewer = fewer_without t h.0 c.entries h.2 in omega arith)
-  leaves_by c closes (Leaves t filled) n stood h long within =
+  leaves_step c closes (Leaves t filled) n stood h long within =
       let fewer = fewer_without t h.0.entry c.entries h.0.found in
-      NoMore (leave_cases (λ es f. c.boundary - fill_count filled + waiting_count es ≤ c.boundary + waiting_count c.entries)
+      NoMore (leave_cases (λ es f. c.queue_len - fill_count filled + waiting_count es ≤ c.queue_len + waiting_count c.entries)
       same_notice t c.queue c.entries (λ none. omega arith)
       (λ passes front rest e.
       (let no_more = (round_counts same_notice front (without_ticket t c.entries)).no_more in omega arith)))
-  leaves_by c closes SenderLeaves n stood h long within = leaves_close c closes
-  leaves_by c closes ReceiverLeaves n stood h long within = leaves_close c closes
-  leaves_by c closes (Resizes new) n stood h long within =
+  leaves_step c closes SenderLeaves n stood h long within = leaves_close c closes
+  leaves_step c closes ReceiverLeaves n stood h long within = leaves_close c closes
+  leaves_step c closes (Resizes new) n stood h long within =
       leaves_fewer (record c { capacity = Some new }) _ (waiting_count c.entries) (omega arith)
-      (λ some. (let whole = stood.whole some in omega arith)) (resized_within new n c.boundary _ (omega arith))
-  leaves_by c closes _ n stood h long within = NoMore (omega arith)
+      (λ some. (let whole = stood.whole some in omega arith)) (resized_within new n c.queue_len _ (omega arith))
+  leaves_step c closes _ n stood h long within = NoMore (omega arith)
 
 -- nothing is within each bound
 none_within : (capacity : Option ℕ) (other n : ℕ) → n ≡ 0 → IsWithinCapacity capacity other n
@@ -157,17 +157,17 @@ module _ {T A : Type 0} where
       by_case : (b : Bool) → is_over (p ∷ past) ≡ b → Bounded o (p ∷ past)
       by_case true over =
           let nobody = ap waiting_count (nobody_once_over o (p ∷ past) over) in
-          let none : boundary o (p ∷ past) ≡ 0 = cond-true (is_over (p ∷ past)) 0 _ over in
+          let none : queue_len o (p ∷ past) ≡ 0 = cond-true (is_over (p ∷ past)) 0 _ over in
           none_within (greatest o (p ∷ past)) _ _ (omega arith)
       by_case false still =
           let s = stepped o past p run still in
-          let leaves = leaves_by (channel o past) s.closes (change past p.0 p.1) s.long s.stood s.fit s.line_is s.in_line in
+          let leaves = leaves_step (channel o past) s.closes (change past p.0 p.1) s.long s.stood s.fit s.line_is s.in_line in
           let LeftBy : ℕ → ℕ → Type 0 = λ n waits. LeavesWithin (capacity o (p ∷ past))
-          (boundary o past + waiting_count (entries o past)) n waits in
-          within_after (greatest o past) (capacity o (p ∷ past)) (peak o past) (boundary o past + waiting_count (entries o past))
-          (boundary o (p ∷ past))
+          (queue_len o past + waiting_count (entries o past)) n waits in
+          within_after (greatest o past) (capacity o (p ∷ past)) (peak o past) (queue_len o past + waiting_count (entries o past))
+          (queue_len o (p ∷ past))
           (waiting_count (entries o (p ∷ past))) before
-          (subst₂ LeftBy (sym s.boundary_is) (sym (ap waiting_count s.entries_are)) leaves)
+          (subst₂ LeftBy (sym s.queue_len_is) (sym (ap waiting_count s.entries_are)) leaves)
 
   -- queued messages and waiting receivers are together at most the greater of the greatest capacity
   -- and the most that waited at once

@@ -1,6 +1,6 @@
 -- Nobody is stuck: if nobody is woken, nobody waits for a message or for room that is there.
 use Rattle.flume_model.proofs.Common.{◌≡◌, ◌<◌, Bool, true, false, List, [], ◌∷◌, length, refl, arith}
-use Rattle.flume_model.proofs.Common.{some_wait, woken_count, line, boundary, Log, Opening, entries, IsRun}
+use Rattle.flume_model.proofs.Common.{some_wait, woken_count, line, queue_len, Log, Opening, entries, IsRun}
 use Rattle.flume_model.specs.WaitLaws.{NobodyStuck}
 use Rattle.flume_model.proofs.order.RunLemmas.{blocked_at_capacity, waits_whole}
 use Rattle.flume_model.proofs.waits.CoveringLemmas.{covered}
@@ -22,6 +22,6 @@ module _ {T A : Type 0} where
     blocked_senders = λ more. (blocked_at_capacity o log run more, by_case more (some_wait (entries o log)) refl);
   }
     where
-      by_case : boundary o log < length (line log) → (b : Bool) → some_wait (entries o log) ≡ b → b ≡ false
+      by_case : queue_len o log < length (line log) → (b : Bool) → some_wait (entries o log) ≡ b → b ≡ false
       by_case more true waits = absurd (let whole = waits_whole o log run waits in omega arith)
       by_case more false waits = refl

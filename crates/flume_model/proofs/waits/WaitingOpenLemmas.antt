@@ -3,7 +3,7 @@
 use Rattle.flume_model.proofs.Common.{◌≡◌, ℕ, ◌≤◌, Bool, true, false, not, ◌&&◌, if◌then◌else◌, List, [], ◌∷◌, length, Some, refl, sym, ◌∙◌}
 use Rattle.flume_model.proofs.Common.{ap, arith, drop, eqb-false, length-drop, drop_all, Channel, channel, senders, receivers}
 use Rattle.flume_model.proofs.Common.{senders_after, receivers_after, is_over, is_woken, some_wait, all_woken, IsOpen, is_closed, line}
-use Rattle.flume_model.proofs.Common.{boundary, blocked, is_live, Log, Opening, Change, Queues, Takes, Parks, Asks, Collects, Leaves}
+use Rattle.flume_model.proofs.Common.{queue_len, blocked, is_live, Log, Opening, Change, Queues, Takes, Parks, Asks, Collects, Leaves}
 use Rattle.flume_model.proofs.Common.{SenderJoins, ReceiverJoins, SenderLeaves, ReceiverLeaves, change, same_notice, entries_after, entries}
 use Rattle.flume_model.proofs.Common.{IsRun, Reply, Step, common_steps}
 use Rattle.flume_model.proofs.LawfulReplyLemmas.{Fits}
@@ -20,8 +20,8 @@ module _ {X : Type 0} where
 
 module _ {T A : Type 0} where
   -- if the queue is the whole line no sender is blocked
-  pub none_blocked_by : (o : Opening) (log : Log T A) → length (line log) ≤ boundary o log → blocked o log ≡ []
-  none_blocked_by o log le = drop_all (boundary o log) (line log) le
+  pub none_blocked_by : (o : Opening) (log : Log T A) → length (line log) ≤ queue_len o log → blocked o log ≡ []
+  none_blocked_by o log le = drop_all (queue_len o log) (line log) le
 
 -- a channel that was open and doesn't close is open
 open_still : (s r s2 r2 : ℕ) → IsOpen s r → (not (is_closed s r) && is_closed s2 r2) ≡ false → IsOpen s2 r2
@@ -75,7 +75,7 @@ module _ {T A : Type 0} where
   waits_open o (p ∷ past) run some = open_more o past p run (waits_open o past run.1) some
 
   -- while a receiver waits the queue is the whole line
-  pub waits_whole : (o : Opening) (log : Log T A) → IsRun o log → some_wait (entries o log) ≡ true → boundary o log ≡ length (line log)
+  pub waits_whole : (o : Opening) (log : Log T A) → IsRun o log → some_wait (entries o log) ≡ true → queue_len o log ≡ length (line log)
   waits_whole o log run some = (shape_of o log run).waits some
 
   -- a receiver waits only in an open channel, and only while no sender is blocked

@@ -2,8 +2,8 @@
 -- parked receivers.
 use Rattle.flume_model.proofs.Common.{◌≡◌, ℕ, ◌+◌, ◌-◌, ◌≤◌, Bool, true, false, not, ◌&&◌, [], ◌∷◌, ◌++◌, length, drop, take, Some, None}
 use Rattle.flume_model.proofs.Common.{refl, sym, ◌∙◌, ap, arith, length-append, length-take-le, cond-true, cond-false, take-append-drop}
-use Rattle.flume_model.proofs.Common.{length-drop, length-map, length_push, Channel, channel, is_over, some_wait, line, boundary}
-use Rattle.flume_model.proofs.Common.{boundary_after, capacity, queue, fill_count, Log, Opening, Offer, Change, Queues, Blocks, Withdraws}
+use Rattle.flume_model.proofs.Common.{length-drop, length-map, length_push, Channel, channel, is_over, some_wait, line, queue_len}
+use Rattle.flume_model.proofs.Common.{queue_len_after, capacity, queue, fill_count, Log, Opening, Offer, Change, Queues, Blocks, Withdraws}
 use Rattle.flume_model.proofs.Common.{Takes}
 use Rattle.flume_model.proofs.Common.{Drains, Leaves, change, entries_after, entries, is_closed_after, IsRun, Reply, Step}
 use Rattle.flume_model.proofs.LawfulReplyLemmas.{Fits, not_over_yet}
@@ -17,9 +17,9 @@ use Rattle.flume_model.proofs.order.LineStepLemmas.{line_stays}
 module _ {T : Type 0} where
   -- what holds of the channel before a step of a run
   pub record Stood (c : Channel T) : Type 0 where
-    pub within : c.boundary ≤ length c.line
-    pub whole : some_wait c.entries ≡ true → c.boundary ≡ length c.line
-    pub queued : length c.queue ≡ c.boundary
+    pub within : c.queue_len ≤ length c.line
+    pub whole : some_wait c.entries ≡ true → c.queue_len ≡ length c.line
+    pub queued : length c.queue ≡ c.queue_len
 
   -- how long the line is after a change
   abbrev pub Long : Channel T → Change T → ℕ → Type 0
@@ -27,7 +27,7 @@ module _ {T : Type 0} where
   Long c (Blocks m t) n = n ≡ length c.line + 1
   Long c (Withdraws t) n = n + 1 ≡ length c.line
   Long c (Takes m receiver) n = n + 1 ≡ length c.line
-  Long c (Drains list) n = n + c.boundary ≡ length c.line
+  Long c (Drains list) n = n + c.queue_len ≡ length c.line
   Long c (Leaves t filled) n = n + fill_count filled ≡ length c.line
   Long c _ n = n ≡ length c.line
 
@@ -36,11 +36,11 @@ module _ {T A : Type 0} where
   pub line_long : (o : Opening) (log : Log T A) → length (channel o log).line ≡ length (line log)
   line_long o log = length-map (line log) (λ offer. offer.message)
 
-  -- as much is queued as the boundary says
-  queue_long : (o : Opening) (log : Log T A) → IsRun o log → length (queue o log) ≡ boundary o log
+  -- as much is queued as the queue_len says
+  queue_long : (o : Opening) (log : Log T A) → IsRun o log → length (queue o log) ≡ queue_len o log
   queue_long o log run =
-      length-map (take (boundary o log) (line log)) (λ offer. offer.message)
-      ∙ length-take-le (boundary o log) (line log) (shape_of o log run).within
+      length-map (take (queue_len o log) (line log)) (λ offer. offer.message)
+      ∙ length-take-le (queue_len o log) (line log) (shape_of o log run).within
 
   -- what holds of the channel after each run
   pub stood : (o : Opening) (log : Log T A) → IsRun o log → Stood (channel o log)
@@ -91,7 +91,7 @@ module _ {T A : Type 0} where
       let same = line_long o past in
       omega arith
   long_after o past p (Drains list) e run h open_ still =
-      let n = boundary o past in
+      let n = queue_len o past in
       let within = (shape_of o past run).within in
       let queued = ap length h ∙ queue_long o past run in
       let front_long = length-take-le n (line past) within in
@@ -116,8 +116,8 @@ module _ {T A : Type 0} where
     pub long : ℕ
     pub long_is : long ≡ length (line (p ∷ past))
     pub line_is : Long (channel o past) (change past p.0 p.1) long
-    pub boundary_is : boundary o (p ∷ past) ≡ boundary_after (capacity o (p ∷ past)) long (boundary o past) (change past p.0 p.1)
-    pub in_line : boundary_after (capacity o (p ∷ past)) long (boundary o past) (change past p.0 p.1) ≤ long
+    pub queue_len_is : queue_len o (p ∷ past) ≡ queue_len_after (capacity o (p ∷ past)) long (queue_len o past) (change past p.0 p.1)
+    pub in_line : queue_len_after (capacity o (p ∷ past)) long (queue_len o past) (change past p.0 p.1) ≤ long
     pub entries_are : entries o (p ∷ past) ≡ entries_after (queue o past) closes (entries o past) (change past p.0 p.1)
 
   -- of each run
@@ -125,7 +125,7 @@ module _ {T A : Type 0} where
   stepped o past p run still =
       let open_ = not_over_yet o past p (filled_if_named o past run.1) run still in
       let fit = fits_run o past p run in
-      let queued : boundary o (p ∷ past) ≡ boundary_after (capacity o (p ∷ past)) (length (line (p ∷ past))) (boundary o past)
+      let queued : queue_len o (p ∷ past) ≡ queue_len_after (capacity o (p ∷ past)) (length (line (p ∷ past))) (queue_len o past)
       (change past p.0 p.1) =
       cond-false (is_over (p ∷ past)) 0 _ still in
       let in_line = (shape_of o (p ∷ past) run).within in
@@ -137,7 +137,7 @@ module _ {T A : Type 0} where
         long = length (line (p ∷ past));
         long_is = refl;
         line_is = long_after o past p (change past p.0 p.1) refl run.1 fit open_ still;
-        boundary_is = queued;
+        queue_len_is = queued;
         in_line = omega arith;
         entries_are = cond-false (is_over (p ∷ past)) [] _ still;
       }

@@ -2,8 +2,8 @@
 use Rattle.flume_model.proofs.Common.{◌≡◌, ℕ, ◌≤◌, Bool, true, false, not, ◌&&◌, if◌then◌else◌, List, [], ◌∷◌, ◌++◌, length, Some, refl}
 use Rattle.flume_model.proofs.Common.{sym, ◌∙◌, ◌⊎◌, inl, inr, ap, arith, min, eqb-true, and_parts, list_any-append, Channel}
 use Rattle.flume_model.proofs.Common.{channel, senders, receivers, senders_after, receivers_after, is_over, is_woken, some_wait, all_woken}
-use Rattle.flume_model.proofs.Common.{without_ticket, round, IsClosed, is_closed, line, boundary}
-use Rattle.flume_model.proofs.Common.{boundary_after, capacity_after, blocked, Log, Opening, Change}
+use Rattle.flume_model.proofs.Common.{without_ticket, round, IsClosed, is_closed, line, queue_len}
+use Rattle.flume_model.proofs.Common.{queue_len_after, capacity_after, blocked, Log, Opening, Change}
 use Rattle.flume_model.proofs.Common.{Queues, Blocks, Takes, Parks, Asks, Collects, Leaves, SenderLeaves}
 use Rattle.flume_model.proofs.Common.{ReceiverLeaves, Resizes, change, LogEntry}
 use Rattle.flume_model.proofs.Common.{same_notice, entries_after, entries, IsRun, block_woken, WokenBlockWhileClosed, Reply, Step}
@@ -41,11 +41,11 @@ module _ {T : Type 0} where
   -- if an end leaves
   closed_close : (c : Channel T) (s2 r2 n : ℕ) (closes : Bool) → Stood c → n ≡ length c.line
       → closes ≡ (not (is_closed c.senders c.receivers) && is_closed s2 r2) → (IsClosed c.senders c.receivers → IsClosed s2 r2)
-      → (block_woken c.entries ≡ true → ClosedWhole c.senders c.receivers (length c.line) c.boundary)
-      → block_woken (if closes then all_woken same_notice c.entries else c.entries) ≡ true → ClosedWhole s2 r2 n c.boundary
+      → (block_woken c.entries ≡ true → ClosedWhole c.senders c.receivers (length c.line) c.queue_len)
+      → block_woken (if closes then all_woken same_notice c.entries else c.entries) ≡ true → ClosedWhole s2 r2 n c.queue_len
   closed_close c s2 r2 n true stood long e stays before some = (
     eqb-true (min s2 r2) 0 (and_parts (not (is_closed c.senders c.receivers)) (is_closed s2 r2) (sym e)).1,
-    elim (block_closes c.entries some) as (λ _. n ≤ c.boundary) [
+    elim (block_closes c.entries some) as (λ _. n ≤ c.queue_len) [
       | inl stood_woken ↦ (let le = (before stood_woken).1 in omega arith)
       | inr waited ↦ (let whole = stood.whole waited in omega arith)
     ],
@@ -55,10 +55,10 @@ module _ {T : Type 0} where
   -- after a change that fits
   closed_by : (c : Channel T) (closes : Bool) (done : Change T) (n : ℕ) → Stood c → Fits c done → Long c done n
       → closes ≡ (not (is_closed c.senders c.receivers) && is_closed (senders_after c.senders done) (receivers_after c.receivers done))
-      → (block_woken c.entries ≡ true → ClosedWhole c.senders c.receivers (length c.line) c.boundary)
+      → (block_woken c.entries ≡ true → ClosedWhole c.senders c.receivers (length c.line) c.queue_len)
       → block_woken (entries_after c.queue closes c.entries done) ≡ true
       → ClosedWhole (senders_after c.senders done) (receivers_after c.receivers done) n
-      (boundary_after (capacity_after c.capacity done) n c.boundary done)
+      (queue_len_after (capacity_after c.capacity done) n c.queue_len done)
   closed_by c closes (Queues m filled) n stood h long e before some =
       let was = before (round_for_push (λ es. block_woken es ≡ true → block_woken c.entries ≡ true) same_notice c.queue m c.entries
       (λ front. block_round front c.entries) some) in
@@ -76,7 +76,7 @@ module _ {T : Type 0} where
       let is_open = h.1 in
       absurd (omega arith)
   closed_by c closes (Asks t) n stood h long e before some =
-      again_cases (λ es. block_woken es ≡ true → ClosedWhole c.senders c.receivers n c.boundary) t c.entries
+      again_cases (λ es. block_woken es ≡ true → ClosedWhole c.senders c.receivers n c.queue_len) t c.entries
       (λ stays. (let was = before stays in (was.0, let le = was.1 in omega arith)))
       (λ x found woken goes.
       (let same : h.0 ≡ x = cc in
@@ -108,10 +108,10 @@ module _ {T A : Type 0} where
   closed_more o past p run before some = by_case (is_over (p ∷ past)) refl
     where
       whole_before : block_woken (entries o past) ≡ true
-          → ClosedWhole (senders past) (receivers past) (length (channel o past).line) (boundary o past)
+          → ClosedWhole (senders past) (receivers past) (length (channel o past).line) (queue_len o past)
       whole_before woken =
           let was = before woken in
-          let whole = whole_by (boundary o past) (line past) was.1 in
+          let whole = whole_by (queue_len o past) (line past) was.1 in
           let same = line_long o past in
           (was.0, omega arith)
 
@@ -124,7 +124,7 @@ module _ {T A : Type 0} where
           let s = stepped o past p run still in
           let main = closed_by (channel o past) s.closes (change past p.0 p.1) s.long s.stood s.fit s.line_is s.closes_is whole_before
           (sym (ap block_woken s.entries_are) ∙ some) in
-          let queued = s.boundary_is in
+          let queued = s.queue_len_is in
           let long = s.long_is in
           let le = main.1 in
           (main.0, none_blocked_by o (p ∷ past) (omega arith))

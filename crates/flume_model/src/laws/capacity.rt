@@ -1,7 +1,7 @@
 //! Laws of a capacity that is set. These functions do nothing: each contract is a law.
 ghost use Rattle.std.specs.Prelude.{◌≡◌, ◌↔◌, ℕ, ◌≤◌, Some, None};
 ghost use Rattle.flume_model.specs.Log.{Log, Opening};
-ghost use Rattle.flume_model.specs.Line.{capacity, boundary};
+ghost use Rattle.flume_model.specs.Line.{capacity, queue_len};
 ghost use Rattle.flume_model.specs.Replies.{IsRun};
 ghost use Rattle.flume_model.specs.Resized.{set_to, IsResized, queued_at};
 
@@ -17,7 +17,7 @@ pub fn setting_the_capacity_lets_blocked_messages_in<T, A: Allocator>()
 pub fn setting_the_same_capacity_changes_nothing<T, A: Allocator>()
     ensures law { (opening : Opening) (past : Log T A) (same : ℕ)
         → IsRun opening (set_to same past) → capacity opening past ≡ Some same
-        → IsResized opening past (set_to same past) same (boundary opening past) }
+        → IsResized opening past (set_to same past) same (queue_len opening past) }
 {}
 
 /// In each run, what a raised capacity let in stays queued after the capacity is lowered.

@@ -1,7 +1,7 @@
 //! Laws for those who use a channel. These functions do nothing: each contract is a law.
 ghost use Rattle.std.specs.Prelude.{◌≡◌, Some};
 ghost use Rattle.flume_model.specs.Log.{Log, Opening};
-ghost use Rattle.flume_model.specs.Line.{greatest, boundary};
+ghost use Rattle.flume_model.specs.Line.{greatest, queue_len};
 ghost use Rattle.flume_model.specs.Replies.{IsRun};
 ghost use Rattle.flume_model.specs.Conserved.{Conserved};
 ghost use Rattle.flume_model.specs.Producers.{HandedOutInOrder};
@@ -24,8 +24,8 @@ pub fn each_producers_offers_keep_their_order<T, A: Allocator>()
 pub fn blocking_receivers_keep_the_queue_within_capacity<T, A: Allocator>()
     ensures law { (opening : Opening) (log : Log T A) → IsRun opening log
         → OnlyBlockingReceivers log
-        → IsAtMostCapacity (greatest opening log) (boundary opening log) }
+        → IsAtMostCapacity (greatest opening log) (queue_len opening log) }
     ensures rendezvous { (opening : Opening) (log : Log T A) → IsRun opening log
         → OnlyBlockingReceivers log
-        → greatest opening log ≡ Some 0 → boundary opening log ≡ 0 }
+        → greatest opening log ≡ Some 0 → queue_len opening log ≡ 0 }
 {}

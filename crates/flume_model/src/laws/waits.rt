@@ -8,8 +8,8 @@ ghost use Rattle.flume_model.specs.Limits.{IsOpen};
 ghost use Rattle.flume_model.specs.Line.{line, blocked, next_ticket, is_live};
 ghost use Rattle.flume_model.specs.Parked.{entries};
 ghost use Rattle.flume_model.specs.Replies.{IsRun};
-ghost use Rattle.flume_model.specs.WaitLaws.{Apart, Covered, Bounded, NobodyStuck};
-ghost use Rattle.flume_model.specs.WaitLaws.{WokenBlockWhileClosed, SidesApart, FilledIfNamed};
+ghost use Rattle.flume_model.specs.WaitLaws.{DistinctTickets, Covered, Bounded, NobodyStuck};
+ghost use Rattle.flume_model.specs.WaitLaws.{WokenBlockWhileClosed, TicketsDisjoint, FilledIfNamed};
 ghost use Rattle.flume_model.specs.WakeRule.{IsWakeRound};
 
 use std::alloc::Allocator;
@@ -55,9 +55,9 @@ pub fn blocking_receivers_are_woken_only_by_closing<T, A: Allocator>()
 /// In each run, tickets of parked receivers differ from each other and from those of live sends.
 pub fn tickets_of_receivers_are_apart<T, A: Allocator>()
     ensures entries { (opening : Opening) (log : Log T A)
-        → IsRun opening log → Apart (next_ticket opening log) (entries opening log) }
+        → IsRun opening log → DistinctTickets (next_ticket opening log) (entries opening log) }
     ensures sides { (opening : Opening) (log : Log T A)
-        → IsRun opening log → SidesApart opening log }
+        → IsRun opening log → TicketsDisjoint opening log }
 {}
 
 /// In each run, a parked receiver holds a message exactly if some reply named it as filled.

@@ -11,10 +11,10 @@ use Rattle.flume_state.specs.declared.notice.Notice.{Notice}
 use Rattle.flume_state.specs.layout.WithTicket.{WithTicket}
 use Rattle.flume_state.specs.Receivers.{EntryList, waits_on}
 
--- a boundary once the element at a place, which has this one behind it, has left
-abbrev pub boundary_without : Option ℕ → ℕ → Option ℕ → Option ℕ
-boundary_without None k next = None
-boundary_without (Some b) k next = if b == k then next else Some b
+-- a start once the element at a place, which has this one behind it, has left
+abbrev pub start_without : Option ℕ → ℕ → Option ℕ → Option ℕ
+start_without None k next = None
+start_without (Some b) k next = if b == k then next else Some b
 
 module _ {T N : Type 0} where
   -- the first entry that waits

@@ -86,5 +86,5 @@ module _ {T : Type 0} where
     pub is : items ≡ front ++ back
     pub none_blocked : blocked_of front ≡ []
     pub none_queued : queued_of back ≡ []
-    pub boundary : first ≡ first_place back
+    pub start : first ≡ first_place back
     pub counted : count ≡ length back

@@ -14,7 +14,7 @@ type Table<A> = HashMap<u64, u32, BuildHasherDefault<TicketHasher>, A>;
 /// The table is boxed: most channels have none, and in place it takes some 85 bytes more.
 #[derive(Drop)]
 pub(super) struct TicketTable<A: Allocator> {
-    made: Option<Box<Table<A>, A>>,
+    table: Option<Box<Table<A>, A>>,
     alloc: A,
 }
 
@@ -28,7 +28,7 @@ impl<A: Allocator> Model for TicketTable<A> {
 
     ghost coded = { code coded_ℕ coded_ℕ };
 
-    ghost view = { λ a. option_map_or (λ b. places_in b.value.entries) a.made empty };
+    ghost view = { λ a. option_map_or (λ b. places_in b.value.entries) a.table empty };
 }
 
 impl<A: Allocator + Copy> TicketTable<A> {
@@ -43,15 +43,15 @@ impl<A: Allocator + Copy> TicketTable<A> {
     pub(super) fn new(alloc: A) -> Self
         ensures empty { result ≡ empty }
     {
-        TicketTable { made: None, alloc }
+        TicketTable { table: None, alloc }
     }
 
     #[inline(always)]
     pub(super) fn is_empty(&self) -> bool
         ensures empty { result ≡ true ↔ self.now ≡ empty }
     {
-        match &self.made {
-            Some(made) => made.is_empty(),
+        match &self.table {
+            Some(table) => table.is_empty(),
             None => true,
         }
     }
@@ -61,8 +61,8 @@ impl<A: Allocator + Copy> TicketTable<A> {
     pub(super) fn get(&self, ticket: u64) -> Option<u32>
         ensures place { result ≡ get self.now ticket }
     {
-        match &self.made {
-            Some(made) => place_in(made, ticket),
+        match &self.table {
+            Some(table) => place_in(table, ticket),
             None => None,
         }
     }
@@ -74,13 +74,13 @@ impl<A: Allocator + Copy> TicketTable<A> {
         ensures absent { OnOk result (get self.old ticket ≡ None) }
         ensures unchanged { OnErr result (self.new ≡ self.old) }
     {
-        if let Some(made) = &mut self.made {
-            return insert_in(made, ticket, place);
+        if let Some(table) = &mut self.table {
+            return insert_in(table, ticket, place);
         }
-        let mut made = HashMap::with_hasher(self.alloc, BuildHasherDefault::new());
-        insert_in(&mut made, ticket, place)?;
-        match Box::new(self.alloc, made) {
-            Ok(made) => self.made = Some(made),
+        let mut table = HashMap::with_hasher(self.alloc, BuildHasherDefault::new());
+        insert_in(&mut table, ticket, place)?;
+        match Box::new(self.alloc, table) {
+            Ok(table) => self.table = Some(table),
             Err(_) => return Err(AllocError),
         }
         Ok(())
@@ -91,16 +91,16 @@ impl<A: Allocator + Copy> TicketTable<A> {
     pub(super) fn remove(&mut self, ticket: u64)
         ensures removed { self.new ≡ remove self.old ticket }
     {
-        if let Some(made) = &mut self.made {
-            remove_from(made, ticket);
+        if let Some(table) = &mut self.table {
+            remove_from(table, ticket);
         }
     }
 
     pub(super) fn clear(&mut self)
         ensures empty { self.new ≡ empty }
     {
-        if let Some(made) = &mut self.made {
-            made.clear();
+        if let Some(table) = &mut self.table {
+            table.clear();
         }
     }
 }

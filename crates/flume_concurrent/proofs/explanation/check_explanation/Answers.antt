@@ -29,7 +29,7 @@ returns-in-Unlawful-clause-explains g c = λ known.
     c.index-items-place.result (search rules) c.index-items-place.is so_far.0 so_far.1 so_far.2
     (c.take_item.ensures.not_lawful c.in-Unlawful.is (opens c.args.capacity 1) so_far.0 so_far.3) in (
       λ e. absurd (let none : ⊥ = cc in none),
-      λ whole. absurd (broken.not_on
+      λ whole. absurd (broken.not_with_next
           (beginning g.T.PartialEq.eq (opens c.args.capacity 1) (c.loop-place.place + 1) c.args.items.now whole)),
     )
 

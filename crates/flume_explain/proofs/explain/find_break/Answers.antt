@@ -12,7 +12,7 @@ loop-low-init g c = record {
   below = some_events g.T.PartialEq.eq (opens c.args.capacity 1) c.args.events.now c.requires;
   high_within = omega arith;
   explained = none_explained g.T.PartialEq.eq (opens c.args.capacity 1);
-  not_on = all_not_on g.T.PartialEq.eq (opens c.args.capacity 1) c.args.events.now c.requires;
+  not_with_next = all_not_on g.T.PartialEq.eq (opens c.args.capacity 1) c.args.events.now c.requires;
 }
 
 pub loop-low-preserved : goal.loop-low-preserved
@@ -22,15 +22,15 @@ loop-low-preserved g c = elim c.match-find_choices.branch [
     high_within = omega arith;
     explained = subst (λ n. IsExplained g.T.PartialEq.eq (opens c.args.capacity 1) (take n c.args.events.now)) (sym w.low-is)
         (w.in-Path.ensures.path w.in-Path.field-0 refl);
-    not_on = subst (λ n. IsExplained g.T.PartialEq.eq (opens c.args.capacity 1) (take n c.args.events.now) → ⊥) (sym w.high-is)
-        c.loop-low.invariant.not_on;
+    not_with_next = subst (λ n. IsExplained g.T.PartialEq.eq (opens c.args.capacity 1) (take n c.args.events.now) → ⊥) (sym w.high-is)
+        c.loop-low.invariant.not_with_next;
   }
   | in-Nothing w ↦ record {
     below = omega arith;
     high_within = omega arith;
     explained = subst (λ n. IsExplained g.T.PartialEq.eq (opens c.args.capacity 1) (take n c.args.events.now)) (sym w.low-is)
         c.loop-low.invariant.explained;
-    not_on = subst (λ n. IsExplained g.T.PartialEq.eq (opens c.args.capacity 1) (take n c.args.events.now) → ⊥) (sym w.high-is)
+    not_with_next = subst (λ n. IsExplained g.T.PartialEq.eq (opens c.args.capacity 1) (take n c.args.events.now) → ⊥) (sym w.high-is)
         (w.in-Nothing.ensures.nothing w.in-Nothing.field-0 refl);
   }
 ]

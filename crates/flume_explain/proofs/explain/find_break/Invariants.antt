@@ -9,7 +9,7 @@ invariant-loop-low g l = record {
   below : l.low < l.high;
   high_within : l.high ≤ length l.events;
   explained : IsExplained g.T.PartialEq.eq (opens l.capacity 1) (take l.low l.events);
-  not_on : IsExplained g.T.PartialEq.eq (opens l.capacity 1) (take l.high l.events) → ⊥;
+  not_with_next : IsExplained g.T.PartialEq.eq (opens l.capacity 1) (take l.high l.events) → ⊥;
 }
 
 abbrev pub decreases-loop-low : goal.decreases-loop-low

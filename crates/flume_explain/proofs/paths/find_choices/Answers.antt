@@ -1,7 +1,7 @@
 -- The start of a channel is reached. If nothing comes of it, nothing explains the events.
 use Rattle.std.proofs.Common.{◌≡◌, ℕ, sym, subst}
 use Rattle.flume_model.specs.Log.{opens}
-use Rattle.flume_explain.specs.Dead.{IsDead}
+use Rattle.flume_explain.specs.Dead.{IsDeadEnd}
 use Rattle.flume_explain.specs.Reached.{IsReached}
 use Rattle.flume_explain.proofs.StartLemmas.{start_reached, unexplained}
 use Rattle.flume_explain.proofs.paths.find_choices.Goals as goal
@@ -15,7 +15,7 @@ returns-clause-path g c = λ path is.
 pub returns-clause-nothing : goal.returns-clause-nothing
 returns-clause-nothing g c = λ furthest is.
     unexplained g.T.PartialEq.eq c.args.events.now c.args.capacity 1
-    (subst (IsDead g.T.PartialEq.eq c.args.events.now 0) c.new-start.ensures.start (c.find_path.ensures.nothing furthest is))
+    (subst (IsDeadEnd g.T.PartialEq.eq c.args.events.now 0) c.new-start.ensures.start (c.find_path.ensures.nothing furthest is))
 
 pub returns-clause-gave_up : goal.returns-clause-gave_up
 returns-clause-gave_up g c = λ furthest is.

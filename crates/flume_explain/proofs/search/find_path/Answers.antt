@@ -4,7 +4,7 @@ use Rattle.std.proofs.lemmas.List.Elements.{All-nil}
 use Rattle.std.specs.List.{All}
 use Rattle.flume_explain.specs.declared.search.Entered.TheVariants.{GoesOn}
 use Rattle.std.proofs.lemmas.Bool.{false≢true}
-use Rattle.flume_explain.specs.Dead.{IsDead}
+use Rattle.flume_explain.specs.Dead.{IsDeadEnd}
 use Rattle.flume_explain.specs.Reached.{AreExplained, IsReached}
 use Rattle.flume_explain.proofs.ReachedEventLemmas.{reached_explained}
 use Rattle.flume_explain.specs.Search.{AreOnTheWay}
@@ -14,9 +14,9 @@ use Rattle.flume_explain.proofs.search.find_path.Goals.{in-GoesOn, in_default-ma
 pub loop-init : goal.loop-init
 loop-init g c = record {
   goes_on = λ is. c.enter-advance.ensures.goes_on is c.args.start (record {
-    way = subst (λ l. AreOnTheWay g.T.PartialEq.eq c.args.events.now (IsDead g.T.PartialEq.eq c.args.events.now 0 c.args.start) l
-        (IsDead g.T.PartialEq.eq c.args.events.now 0 c.args.start)) (sym c.new-search.ensures.no_frames) (λ gone. gone);
-    dead = subst (All (λ d. IsDead g.T.PartialEq.eq c.args.events.now d.place d.configuration)) (sym c.new-search.ensures.none_dead)
+    way = subst (λ l. AreOnTheWay g.T.PartialEq.eq c.args.events.now (IsDeadEnd g.T.PartialEq.eq c.args.events.now 0 c.args.start) l
+        (IsDeadEnd g.T.PartialEq.eq c.args.events.now 0 c.args.start)) (sym c.new-search.ensures.no_frames) (λ gone. gone);
+    dead = subst (All (λ d. IsDeadEnd g.T.PartialEq.eq c.args.events.now d.place d.configuration)) (sym c.new-search.ensures.none_dead)
         (All-nil _);
   });
   nowhere = λ is. absurd (c.enter-advance.ensures.not_nowhere is);

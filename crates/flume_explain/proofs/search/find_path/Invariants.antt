@@ -2,7 +2,7 @@ use Rattle.std.proofs.Common.{◌≡◌}
 use Rattle.flume_explain.specs.declared.search.Entered.TheVariants.{GoesOn, AtEnd, Nowhere}
 use Rattle.flume_model.specs.Log.{Opening}
 use Rattle.flume_concurrent.specs.Explanations.{IsExplained}
-use Rattle.flume_explain.specs.Dead.{IsDead}
+use Rattle.flume_explain.specs.Dead.{IsDeadEnd}
 use Rattle.flume_explain.specs.Reached.{AreExplained, HasReached, IsReached}
 use Rattle.flume_explain.specs.Search.{Searches}
 use Rattle.flume_explain.proofs.search.find_path.Given as goal
@@ -12,7 +12,7 @@ use Rattle.flume_explain.proofs.search.find_path.Given as goal
 abbrev pub invariant-loop : goal.invariant-loop
 invariant-loop g l = record {
   goes_on : l.advance ≡ GoesOn → Searches g.T.PartialEq.eq l.events l.fn.start (Unit {0}) l.search;
-  nowhere : l.advance ≡ Nowhere → IsDead g.T.PartialEq.eq l.events 0 l.fn.start;
+  nowhere : l.advance ≡ Nowhere → IsDeadEnd g.T.PartialEq.eq l.events 0 l.fn.start;
   reached : l.advance ≡ GoesOn → (opening : Opening) → IsReached g.T.PartialEq.eq l.events opening 0 l.fn.start
       → HasReached g.T.PartialEq.eq l.events opening l.search;
   at_end : l.advance ≡ AtEnd → (opening : Opening) → IsReached g.T.PartialEq.eq l.events opening 0 l.fn.start

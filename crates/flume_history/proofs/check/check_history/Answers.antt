@@ -3,7 +3,7 @@ use Rattle.std.proofs.Common.{◌≡◌, ◌+◌, refl, sym, subst, take, revers
 use Rattle.std.proofs.lemmas.List.{take_all}
 use Rattle.flume_model.specs.Log.{opens}
 use Rattle.flume_history.specs.Equal.{Equals}
-use Rattle.flume_history.specs.Histories.{IsSaidOf, BreaksAt}
+use Rattle.flume_history.specs.Histories.{DescribesLog, BreaksAt}
 use Rattle.flume_history.proofs.EqualityLemmas.{tells_want}
 use Rattle.flume_history.proofs.FollowLemmas.{with_next, breaks_at, beginning}
 use Rattle.flume_history.proofs.check.check_history.Goals as goal
@@ -16,7 +16,7 @@ returns-in-Unlawful-clause-run g c = λ known.
     c.index-history-place.result so_far.0 (search rules) c.index-history-place.is so_far.1.run so_far.2
     (c.follow_reply.ensures.not_lawful c.in-Unlawful.is (opens c.args.capacity 1) so_far.0 so_far.1) in (
       λ e. absurd (let none : ⊥ = cc in none),
-      λ whole. absurd (broken.not_on
+      λ whole. absurd (broken.not_with_next
           (beginning (Equals g.T.PartialEq.eq) (opens c.args.capacity 1) (c.loop-place.place + 1) c.args.history.now whole)),
     )
 
@@ -42,7 +42,7 @@ loop-place-preserved g c =
       followed = (
         (p.0, reply) ∷ so_far.0,
         on.1,
-        subst (λ l. IsSaidOf (Equals g.T.PartialEq.eq) l ((p.0, reply) ∷ so_far.0)) (sym next) (refl, on.0, so_far.2),
+        subst (λ l. DescribesLog (Equals g.T.PartialEq.eq) l ((p.0, reply) ∷ so_far.0)) (sym next) (refl, on.0, so_far.2),
       );
     }
 
@@ -51,6 +51,6 @@ returns-clause-run g c = λ known.
     let so_far = c.loop-place.invariant.followed in
     let all : take c.loop-place.place c.args.history.now ≡ c.args.history.now =
     take_all c.loop-place.place c.args.history.now (search rules) in (
-      λ e. (so_far.0, so_far.1.run, subst (λ l. IsSaidOf (Equals g.T.PartialEq.eq) (reverse l) so_far.0) all so_far.2),
+      λ e. (so_far.0, so_far.1.run, subst (λ l. DescribesLog (Equals g.T.PartialEq.eq) (reverse l) so_far.0) all so_far.2),
       λ whole. refl,
     )

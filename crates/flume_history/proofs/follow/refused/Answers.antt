@@ -7,7 +7,7 @@ use Rattle.flume_core.proofs.InvariantLemmas.{still}
 use Rattle.flume_history.specs.Equal.{equal_replies, Equals}
 use Rattle.flume_history.specs.HandedIn.{handed_in}
 use Rattle.flume_history.proofs.FollowLemmas.{want_stays, no_other_want}
-use Rattle.flume_history.proofs.WantingLemmas.{want_allowed}
+use Rattle.flume_history.proofs.NoMemoryRuleLemmas.{want_allowed}
 use Rattle.flume_history.proofs.follow.refused.Goals as goal
 use Rattle.flume_history.proofs.follow.refused.Goals.{else-no_memory_is_lawful-via-then-no_memory_is_lawful+else-eq}
 use Rattle.flume_history.proofs.follow.refused.Goals.{else-no_memory_is_lawful-via-else-no_memory_is_lawful}
@@ -21,7 +21,7 @@ returns-then-eq-clause-lawful g c reply is o log h =
       sym (compared ∙ ap (equal_replies g.T.PartialEq.eq c.args.recorded.now) injected) ∙ c.if-eq.true,
       subst (λ r. Represents o ((c.args.step.now, r) ∷ log) c.args.chan.now) same
           (still o log (c.args.step.now, NoMemory (handed_in c.args.step.now)) c.args.chan.now c.args.chan.now h
-          (want_allowed h c.args.step.now (c.no_memory_is_lawful.ensures.wants.0 c.if-no_memory_is_lawful.true))
+          (want_allowed h c.args.step.now (c.no_memory_is_lawful.ensures.lawful.0 c.if-no_memory_is_lawful.true))
           (want_stays log c.args.step.now (handed_in c.args.step.now)) refl),
     )
 
@@ -37,7 +37,7 @@ returns-else-no_memory_is_lawful-clause-not_lawful g c is o log h reply refusal 
           let on = also in
           let none : ⊥ = cc in none
       | else-no_memory_is_lawful-via-else-no_memory_is_lawful w ↦
-          let on = c.no_memory_is_lawful.ensures.wants.1 may in
+          let on = c.no_memory_is_lawful.ensures.lawful.1 may in
           let off : c.no_memory_is_lawful.result ≡ false = w.if-no_memory_is_lawful.false in
           let none : ⊥ = cc in none
     ])

@@ -1,5 +1,5 @@
 -- Step by step.
-use Rattle.flume_history.proofs.WantingLemmas.{want_allowed, want_only}
+use Rattle.flume_history.proofs.NoMemoryRuleLemmas.{want_allowed, want_only}
 use Rattle.flume_history.proofs.laws.no_memory_is_lawful_as_defined.Goals as goal
 
 pub returns : goal.returns

@@ -5,7 +5,7 @@ use Rattle.flume_model.specs.declared.step.Reply.TheVariants.{Sent, Full, Closed
 use Rattle.flume_model.specs.declared.step.Reply.TheVariants.{Pending, Accepted, Waiting, Returned}
 use Rattle.flume_model.specs.declared.step.Reply.TheVariants.{NoTicket, Got, Empty, Ended, Parked}
 use Rattle.flume_model.specs.declared.step.Reply.TheVariants.{Gone, Drained, Done, NoEnd, CountFull}
-use Rattle.flume_model.specs.declared.step.Reply.TheVariants.{Number, Truth, Capacity, Unbounded}
+use Rattle.flume_model.specs.declared.step.Reply.TheVariants.{Number, Flag, Capacity, Unbounded}
 use Rattle.flume_model.specs.contracts.step.ReplyPartialEq.TheImpl as replies
 use Rattle.flume_history.specs.Equal.{equal_replies}
 use Rattle.flume_history.proofs.laws.replies_are_equal_by_case.Given as given
@@ -99,8 +99,8 @@ module _ (g : given.Over) where
   number x (Number y) = refl
   number x _ = refl
 
-  truth : (x : Bool) → IsTabled (Truth x)
-  truth x (Truth y) = refl
+  truth : (x : Bool) → IsTabled (Flag x)
+  truth x (Flag y) = refl
   truth x _ = refl
 
   capacity : (x : Option ℕ) → IsTabled (Capacity x)
@@ -132,7 +132,7 @@ module _ (g : given.Over) where
   tabled NoEnd = no_end
   tabled CountFull = count_full
   tabled (Number x) = number x
-  tabled (Truth x) = truth x
+  tabled (Flag x) = truth x
   tabled (Capacity x) = capacity x
   tabled Unbounded = unbounded
 

@@ -3,8 +3,8 @@ use Rattle.std.proofs.Common.{◌≡◌, ◌+◌, inl, inr, ◌∷◌, refl, sym
 use Rattle.std.proofs.Math.ListN.{get_or}
 use Rattle.std.proofs.lemmas.List.{take_all}
 use Rattle.flume_model.specs.Log.{opens}
-use Rattle.flume_history.specs.Histories.{IsSaidOf}
-use Rattle.flume_history.specs.HistoryText.{Pair, Says, break_text}
+use Rattle.flume_history.specs.Histories.{DescribesLog}
+use Rattle.flume_history.specs.HistoryText.{Pair, IsTextOf, break_text}
 use Rattle.flume_history.proofs.FollowLemmas.{with_next}
 use Rattle.flume_history.proofs.JudgeLemmas.{breaks_there}
 use Rattle.flume_history.proofs.script.judge.Goals as goal
@@ -15,7 +15,7 @@ returns-in-Some g c = record {
       let so_far = c.loop-place.invariant.followed in
       let pairs = c.args.pairs.now in
       let place = c.loop-place.place in
-      let p : Pair = (c.pair.inside.step, c.pair.inside.said.now) in
+      let p : Pair = (c.pair.inside.step, c.pair.inside.reply.now) in
       let at : p ≡ get_or pairs place p = search rules in
       let is_text : c.in_ok-text.text.items ≡ break_text (place + 2) p.1 c.in-Some.expected.items = search rules in
       let shows = rw c.in-Some.is at c.in_ok-expected.ensures.not_lawful in
@@ -30,7 +30,7 @@ loop-place-preserved g c =
     let so_far = c.loop-place.invariant.followed in
     let pairs = c.args.pairs.now in
     let place = c.loop-place.place in
-    let p : Pair = (c.pair.inside.step, c.pair.inside.said.now) in
+    let p : Pair = (c.pair.inside.step, c.pair.inside.reply.now) in
     let at : p ≡ get_or pairs place p = search rules in
     let next = with_next pairs place p (search rules) at in
     let follows = rw c.in_default.is at c.in_ok-expected.ensures.lawful in
@@ -39,7 +39,7 @@ loop-place-preserved g c =
       followed = (
         (p.0, on.0) ∷ so_far.0,
         on.2,
-        subst (λ l. IsSaidOf Says l ((p.0, on.0) ∷ so_far.0)) (sym next) (refl, on.1, so_far.2),
+        subst (λ l. DescribesLog IsTextOf l ((p.0, on.0) ∷ so_far.0)) (sym next) (refl, on.1, so_far.2),
       );
     }
 
@@ -53,7 +53,7 @@ returns g c = record {
         capacity = c.args.capacity;
         pairs = pairs;
         reads = reads;
-        is_history = (so_far.0, so_far.1.run, subst (λ l. IsSaidOf Says (reverse l) so_far.0) all so_far.2);
+        is_history = (so_far.0, so_far.1.run, subst (λ l. DescribesLog IsTextOf (reverse l) so_far.0) all so_far.2);
         text_is = search rules;
         status_is = refl;
       });

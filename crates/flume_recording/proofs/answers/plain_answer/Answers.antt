@@ -3,7 +3,7 @@ use Rattle.std.proofs.Common.{◌≡◌, true, false, Some, None, codes, sym, ru
 use Rattle.std.specs.Fmt.{decimal}
 use Rattle.flume_concurrent.specs.declared.call.Answer.TheVariants.{Sent, Full, Got, Empty, Disconnected, Timeout, NoMemory, Dropped}
 use Rattle.flume_concurrent.specs.declared.call.Answer.TheVariants.{Drained}
-use Rattle.flume_concurrent.specs.declared.call.Answer.TheVariants.{Done, NoEnd, CountFull, Number, Truth, Capacity, Unbounded}
+use Rattle.flume_concurrent.specs.declared.call.Answer.TheVariants.{Done, NoEnd, CountFull, Number, Flag, Capacity, Unbounded}
 use Rattle.flume_recording.specs.Texts.{IsAnswerText}
 use Rattle.flume_recording.proofs.CutLemmas.{has_byte}
 use Rattle.flume_recording.proofs.answers.plain_answer.Goals as goal
@@ -24,8 +24,8 @@ returns-else-is_text-14-clause-value g c = λ answer. elim answer as (λ a. IsAn
   | Done ↦ λ h. (let e : c.args.word.now ≡ codes "done" = h.0 in search rules)
   | NoEnd ↦ λ h. (let e : c.args.word.now ≡ codes "noend" = h.0 in search rules)
   | CountFull ↦ λ h. (let e : c.args.word.now ≡ codes "countfull" = h.0 in search rules)
-  | Truth true ↦ λ h. (let e : c.args.word.now ≡ codes "true" = h.0 in search rules)
-  | Truth false ↦ λ h. (let e : c.args.word.now ≡ codes "false" = h.0 in search rules)
+  | Flag true ↦ λ h. (let e : c.args.word.now ≡ codes "true" = h.0 in search rules)
+  | Flag false ↦ λ h. (let e : c.args.word.now ≡ codes "false" = h.0 in search rules)
   | Capacity None ↦ λ h. (let e : c.args.word.now ≡ codes "none" = h.0 in search rules)
   | Unbounded ↦ λ h. (let e : c.args.word.now ≡ codes "unbounded" = h.0 in search rules)
 ]

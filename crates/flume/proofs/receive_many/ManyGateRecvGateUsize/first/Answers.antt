@@ -7,11 +7,11 @@ use Rattle.flume.proofs.receive_many.ManyGateRecvGateUsize.first.Goals as goal
 
 pub returns-clause-does : goal.returns-clause-does
 returns-clause-does g c =
-    let came = c.call_many-into.ensures in
-    let next = c.call_many-into.result.next in
+    let came = c.call_many-buffer.ensures in
+    let next = c.call_many-buffer.result.next in
     let most = c.args.self.now.most in
-    let same = c.replace-into.ensures.value in
-    let after = c.call_many-into.result.into.items in (
+    let same = c.replace-buffer.ensures.value in
+    let after = c.call_many-buffer.result.buffer.items in (
       refl,
       refl,
       came.answers.0,

@@ -6,7 +6,7 @@ use Rattle.flume.proofs.ManyReceiveStepLemmas.{many_from}
 use Rattle.flume.proofs.receiver.Receiver.recv_many.Goals as goal
 
 pub returns-clause-appended : goal.returns-clause-appended
-returns-clause-appended g c = waited_came c.args.most c.args.into.now.items _ c.recv_many_until.result c.receive_answer.result
+returns-clause-appended g c = waited_came c.args.most c.args.buffer.now.items _ c.recv_many_until.result c.receive_answer.result
     c.recv_many_until.ensures.appended c.receive_answer.ensures.outcome
 
 pub returns-clause-made : goal.returns-clause-made

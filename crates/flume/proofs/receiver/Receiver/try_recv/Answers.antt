@@ -1,7 +1,7 @@
 -- What the one turn answers.
 use Rattle.std.proofs.Common.{◌∙◌, ap, subst}
 use Rattle.flume_model.specs.declared.step.Step.TheVariants.{TryRecv}
-use Rattle.flume_calls.specs.ReceiveTurns.{IsntRefused, after_try_recv}
+use Rattle.flume_calls.specs.ReceiveTurns.{HadMemory, after_try_recv}
 use Rattle.flume.specs.CallSteps.{try_receive_as_turn}
 use Rattle.flume.specs.LockedTurns.{HasMade}
 use Rattle.flume.proofs.StepLemmas.{one_step, step_made}
@@ -16,4 +16,4 @@ returns-clause-made g c =
 
 pub returns-clause-never_no_memory : goal.returns-clause-never_no_memory
 returns-clause-never_no_memory g c said =
-    subst (λ turn. IsntRefused turn) (c.try_receive_answer.ensures.turn ∙ ap try_receive_as_turn said) c.call_step.ensures.answers.1
+    subst (λ turn. HadMemory turn) (c.try_receive_answer.ensures.turn ∙ ap try_receive_as_turn said) c.call_step.ensures.answers.1

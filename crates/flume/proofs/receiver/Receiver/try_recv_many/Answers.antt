@@ -10,7 +10,7 @@ pub returns-clause-appended : goal.returns-clause-appended
 returns-clause-appended g c =
     let came = c.call_many-list.ensures in
     let next = c.call_many-list.result.next in
-    tried_came c.args.most c.args.into.now.items c.call_many-list.result.into.items next c.try_receive_answer.result
+    tried_came c.args.most c.args.buffer.now.items c.call_many-list.result.buffer.items next c.try_receive_answer.result
     (from_list c.args.most _ _ _ next (ap (λ list. list.items) c.replace-list.ensures.value)
     (first_grows c.args.most _ _ next came.made.turn.0.answered came.answers.1)) c.try_receive_answer.ensures.turn
 
@@ -24,4 +24,4 @@ returns-clause-no_memory g c said =
     let next = c.call_many-list.result.next in
     let lacks = lacks_room _ c.args.most _ _ next c.call_many-list.ensures.made.turn.1 in
     let same = subst (λ list. LacksRoom list c.args.most next) c.replace-list.ensures.value lacks in
-    subst (λ next. LacksRoom c.args.into.now c.args.most next) (c.try_receive_answer.ensures.turn ∙ ap try_receive_as_turn said) same
+    subst (λ next. LacksRoom c.args.buffer.now c.args.most next) (c.try_receive_answer.ensures.turn ∙ ap try_receive_as_turn said) same

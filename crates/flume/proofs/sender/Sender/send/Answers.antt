@@ -1,7 +1,7 @@
 -- A send ends with its first turn, or goes on from the channel that it found full.
 use Rattle.std.proofs.Common.{subst}
 use Rattle.flume_calls.specs.declared.calls.send.SendNext.TheVariants.{Done}
-use Rattle.flume_calls.specs.SendTurns.{IsFirst}
+use Rattle.flume_calls.specs.SendTurns.{IsFirstAnswer}
 use Rattle.flume.proofs.StepLemmas.{one_step}
 use Rattle.flume.proofs.sender.Sender.send.Goals as goal
 
@@ -10,5 +10,5 @@ call_step-requires g c = record { one_step = λ old new answer does. one_step do
 
 pub send_answer-requires : goal.send_answer-requires
 send_answer-requires g c = record {
-  in_time = λ back late. subst (λ r. IsFirst c.args.message (Done r)) late c.in-Done.ensures.answers;
+  in_time = λ back late. subst (λ r. IsFirstAnswer c.args.message (Done r)) late c.in-Done.ensures.answers;
 }

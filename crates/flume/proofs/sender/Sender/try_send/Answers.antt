@@ -1,7 +1,7 @@
 -- What the one turn answers.
 use Rattle.std.proofs.Common.{◌∙◌, ap, subst}
 use Rattle.flume_model.specs.declared.step.Step.TheVariants.{TrySend}
-use Rattle.flume_calls.specs.SendTurns.{IsFirst, after_try_send}
+use Rattle.flume_calls.specs.SendTurns.{IsFirstAnswer, after_try_send}
 use Rattle.flume.specs.CallSteps.{try_send_as_turn}
 use Rattle.flume.specs.LockedTurns.{HasMade}
 use Rattle.flume.proofs.StepLemmas.{one_step, step_made}
@@ -16,12 +16,15 @@ returns-clause-made g c =
 
 pub returns-clause-full : goal.returns-clause-full
 returns-clause-full g c = λ back said.
-    subst (λ turn. IsFirst c.args.message turn) (c.try_send_answer.ensures.turn ∙ ap try_send_as_turn said) c.call_step.ensures.answers
+    subst (λ turn. IsFirstAnswer c.args.message turn) (c.try_send_answer.ensures.turn ∙ ap try_send_as_turn said)
+    c.call_step.ensures.answers
 
 pub returns-clause-disconnected : goal.returns-clause-disconnected
 returns-clause-disconnected g c = λ back said.
-    subst (λ turn. IsFirst c.args.message turn) (c.try_send_answer.ensures.turn ∙ ap try_send_as_turn said) c.call_step.ensures.answers
+    subst (λ turn. IsFirstAnswer c.args.message turn) (c.try_send_answer.ensures.turn ∙ ap try_send_as_turn said)
+    c.call_step.ensures.answers
 
 pub returns-clause-no_memory : goal.returns-clause-no_memory
 returns-clause-no_memory g c = λ back said.
-    subst (λ turn. IsFirst c.args.message turn) (c.try_send_answer.ensures.turn ∙ ap try_send_as_turn said) c.call_step.ensures.answers
+    subst (λ turn. IsFirstAnswer c.args.message turn) (c.try_send_answer.ensures.turn ∙ ap try_send_as_turn said)
+    c.call_step.ensures.answers

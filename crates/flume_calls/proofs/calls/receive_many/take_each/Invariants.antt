@@ -6,8 +6,8 @@ use Rattle.flume_calls.proofs.calls.receive_many.take_each.Given as goal
 -- this many were taken so far, and the list has as many more
 abbrev pub invariant-loop-taken : goal.invariant-loop-taken
 invariant-loop-taken g l = record {
-  took : Takes g.row.A.Denot l.fn.chan l.fn.into.items l._taken l.chan l.into.items;
+  took : Takes g.row.A.Denot l.fn.chan l.fn.buffer.items l._taken l.chan l.buffer.items;
   remaining : message_count l.chan + l._taken ≡ message_count l.fn.chan;
-  len : vec_len l.into ≡ vec_len l.fn.into + l._taken;
-  capacity : vec_capacity l.into ≡ vec_capacity l.fn.into;
+  len : vec_len l.buffer ≡ vec_len l.fn.buffer + l._taken;
+  capacity : vec_capacity l.buffer ≡ vec_capacity l.fn.buffer;
 }

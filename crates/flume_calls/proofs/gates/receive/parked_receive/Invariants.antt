@@ -6,6 +6,6 @@ abbrev pub invariant-loop : goal.invariant-loop
 invariant-loop g l = record {
   from_here : (new : _) (result : _) → ParkedReceive g.G.RecvGate.parked_turn g.G.RecvGate.waits l.gate l.call new result
       → ParkedReceive g.G.RecvGate.parked_turn g.G.RecvGate.waits l.fn.gate l.fn.call new result;
-  ready : g.G.RecvGate.is_ready l.gate;
+  ready : g.G.RecvGate.can_park l.gate;
   on : (goal.iterator-loop g).can_next l.iterator' × (goal.iterator-loop g).is_finite l.iterator';
 }

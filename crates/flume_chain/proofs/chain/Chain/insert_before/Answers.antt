@@ -21,22 +21,23 @@ returns-in_default-clause-inserted g c =
     c.push_back-in_default.ensures.pushed)
 
 pub link_before-requires-clause-free : goal.link_before-requires-clause-free
-link_before-requires-clause-free g c = free_stands c.self.inside.links c.self.invariant.items c.self.invariant.frees c.self.invariant.holds
+link_before-requires-clause-free g c = free_stands c.self.inside.links c.self.invariant.items c.self.invariant.free_places
+    c.self.invariant.holds
 
 pub link_before-requires-clause-next : goal.link_before-requires-clause-next
 link_before-requires-clause-next g c =
     let k = c.self.invariant in
     let e = standing _ _ _ c.in-Some-get.ensures.value in
-    let r = found_split c.self.inside.links k.items k.frees c.in-Some.next e.element k.holds e.is in
-    λ occupied. place_below c.self.inside.links k.items k.frees c.in-Some.next e.element r k.holds
+    let r = found_split c.self.inside.links k.items k.free_places c.in-Some.next e.element k.holds e.is in
+    λ occupied. place_below c.self.inside.links k.items k.free_places c.in-Some.next e.element r k.holds
 
 pub link_before-requires-clause-previous : goal.link_before-requires-clause-previous
 link_before-requires-clause-previous g c =
     let k = c.self.invariant in
     let e = standing _ _ _ c.in-Some-get.ensures.value in
-    let r = found_split c.self.inside.links k.items k.frees c.in-Some.next e.element k.holds e.is in
-    (neighbours (table_of c.self.inside.links) r.before r.after c.in-Some.next e.element k.frees
-    (subst (λ l. HoldsItems (table_of c.self.inside.links) l k.frees) r.is k.holds)).previous
+    let r = found_split c.self.inside.links k.items k.free_places c.in-Some.next e.element k.holds e.is in
+    (neighbours (table_of c.self.inside.links) r.before r.after c.in-Some.next e.element k.free_places
+    (subst (λ l. HoldsItems (table_of c.self.inside.links) l k.free_places) r.is k.holds)).previous
 
 pub invariant_of-self : goal.invariant_of-self
 invariant_of-self g c =
@@ -45,7 +46,7 @@ invariant_of-self g c =
 pub returns-in_err-place-clause-succeeds : goal.returns-in_err-place-clause-succeeds
 returns-in_err-place-clause-succeeds g c = λ some.
     let room = ap (λ x. x.room) c.self.view_is in
-    not_full c.self.inside.links c.self.invariant.items c.self.invariant.frees c.self.inside.len _ c.self.invariant.holds
+    not_full c.self.inside.links c.self.invariant.items c.self.invariant.free_places c.self.inside.len _ c.self.invariant.holds
     c.self.invariant.count c.in_err-place.ensures.full (omega arith)
 
 pub returns-in_err-place-clause-unchanged : goal.returns-in_err-place-clause-unchanged
@@ -58,12 +59,12 @@ pub invariant_of-self-2 : goal.invariant_of-self-2
 invariant_of-self-2 g c =
     let k = c.self.invariant in
     let e = standing _ _ _ c.in-Some-get.ensures.value in
-    let r = found_split c.self.inside.links k.items k.frees c.in-Some.next e.element k.holds e.is in
-    let h = insert_holds c.self.inside.links c.link_before.new.self k.items k.frees c.in-Some.next e.element c.in_ok-place.place
+    let r = found_split c.self.inside.links k.items k.free_places c.in-Some.next e.element k.holds e.is in
+    let h = insert_holds c.self.inside.links c.link_before.new.self k.items k.free_places c.in-Some.next e.element c.in_ok-place.place
     c.args.element r k.holds c.in_ok-place.ensures.put in
     record {
       items = r.before ++ item c.in_ok-place.place c.args.element ∷ item c.in-Some.next e.element ∷ r.after;
-      frees = h.frees;
+      free_places = h.free_places;
       holds = h.holds;
       count =
           let a = length-append r.before (item c.in_ok-place.place c.args.element ∷ item c.in-Some.next e.element ∷ r.after) in
@@ -78,16 +79,16 @@ pub returns-clause-inserted : goal.returns-clause-inserted
 returns-clause-inserted g c =
     let k = c.self.invariant in
     let e = standing _ _ _ c.in-Some-get.ensures.value in
-    let r = found_split c.self.inside.links k.items k.frees c.in-Some.next e.element k.holds e.is in
-    let h = insert_holds c.self.inside.links c.link_before.new.self k.items k.frees c.in-Some.next e.element c.in_ok-place.place
+    let r = found_split c.self.inside.links k.items k.free_places c.in-Some.next e.element k.holds e.is in
+    let h = insert_holds c.self.inside.links c.link_before.new.self k.items k.free_places c.in-Some.next e.element c.in_ok-place.place
     c.args.element r k.holds c.in_ok-place.ensures.put in
     let a = length-append r.before (item c.in_ok-place.place c.args.element ∷ item c.in-Some.next e.element ∷ r.after) in
     let b = length-append r.before (item c.in-Some.next e.element ∷ r.after) in
     let n = ap length r.is in
     let m = k.count in
     rw c.in-Some.is
-    (walked c.link_before.new.self (c.self.inside.len + 1) _ h.frees h.holds (omega arith)
-    ∙ sym (put_items c.self.inside.links k.items k.frees c.in-Some.next e.element (item c.in_ok-place.place c.args.element) r k.holds)
+    (walked c.link_before.new.self (c.self.inside.len + 1) _ h.free_places h.holds (omega arith)
+    ∙ sym (put_items c.self.inside.links k.items k.free_places c.in-Some.next e.element (item c.in_ok-place.place c.args.element) r k.holds)
     ∙ ap (λ l. put_before l c.in-Some.next (item c.in_ok-place.place c.args.element))
     (kept_items c.self.inside.links c.self.inside.len c.args.self.now k c.self.view_is))
 
@@ -95,8 +96,8 @@ pub returns-clause-fresh : goal.returns-clause-fresh
 returns-clause-fresh g c =
     let k = c.self.invariant in
     let e = standing _ _ _ c.in-Some-get.ensures.value in
-    let r = found_split c.self.inside.links k.items k.frees c.in-Some.next e.element k.holds e.is in
-    let h = insert_holds c.self.inside.links c.link_before.new.self k.items k.frees c.in-Some.next e.element c.in_ok-place.place
+    let r = found_split c.self.inside.links k.items k.free_places c.in-Some.next e.element k.holds e.is in
+    let h = insert_holds c.self.inside.links c.link_before.new.self k.items k.free_places c.in-Some.next e.element c.in_ok-place.place
     c.args.element r k.holds c.in_ok-place.ensures.put in
     ap (λ l. found l c.in_ok-place.place)
     (sym (kept_items c.self.inside.links c.self.inside.len c.args.self.now k c.self.view_is) ∙ r.is)
@@ -106,8 +107,8 @@ pub returns-clause-fits : goal.returns-clause-fits
 returns-clause-fits g c =
     let k = c.self.invariant in
     let e = standing _ _ _ c.in-Some-get.ensures.value in
-    let r = found_split c.self.inside.links k.items k.frees c.in-Some.next e.element k.holds e.is in
-    let h = insert_holds c.self.inside.links c.link_before.new.self k.items k.frees c.in-Some.next e.element c.in_ok-place.place
+    let r = found_split c.self.inside.links k.items k.free_places c.in-Some.next e.element k.holds e.is in
+    let h = insert_holds c.self.inside.links c.link_before.new.self k.items k.free_places c.in-Some.next e.element c.in_ok-place.place
     c.args.element r k.holds c.in_ok-place.ensures.put in
     let new = ap length (returns-clause-inserted g c) in
     let more = ap (λ o. length (put_before_or_last c.args.self.now.items o (item c.in_ok-place.place c.args.element))) c.in-Some.is
@@ -124,5 +125,5 @@ pub returns-clause-room : goal.returns-clause-room
 returns-clause-room g c = λ some.
     let k = c.self.invariant in
     let room = ap (λ x. x.room) c.self.view_is in
-    put_room c.self.inside.links c.link_before.new.self k.items k.frees c.self.inside.len c.in_ok-place.place _ _ _ k.holds k.count
+    put_room c.self.inside.links c.link_before.new.self k.items k.free_places c.self.inside.len c.in_ok-place.place _ _ _ k.holds k.count
     c.in_ok-place.ensures.put (omega arith) ∙ room

@@ -22,17 +22,17 @@ pub unlink-requires-clause-next : goal.unlink-requires-clause-next
 unlink-requires-clause-next g c =
     let k = c.self.invariant in
     let e = standing _ _ _ c.in-Some.ensures.value in
-    let r = found_split c.self.inside.links k.items k.frees c.args.place e.element k.holds e.is in
-    (neighbours (table_of c.self.inside.links) r.before r.after c.args.place e.element k.frees
-    (subst (λ l. HoldsItems (table_of c.self.inside.links) l k.frees) r.is k.holds)).next
+    let r = found_split c.self.inside.links k.items k.free_places c.args.place e.element k.holds e.is in
+    (neighbours (table_of c.self.inside.links) r.before r.after c.args.place e.element k.free_places
+    (subst (λ l. HoldsItems (table_of c.self.inside.links) l k.free_places) r.is k.holds)).next
 
 pub unlink-requires-clause-previous : goal.unlink-requires-clause-previous
 unlink-requires-clause-previous g c =
     let k = c.self.invariant in
     let e = standing _ _ _ c.in-Some.ensures.value in
-    let r = found_split c.self.inside.links k.items k.frees c.args.place e.element k.holds e.is in
-    (neighbours (table_of c.self.inside.links) r.before r.after c.args.place e.element k.frees
-    (subst (λ l. HoldsItems (table_of c.self.inside.links) l k.frees) r.is k.holds)).previous
+    let r = found_split c.self.inside.links k.items k.free_places c.args.place e.element k.holds e.is in
+    (neighbours (table_of c.self.inside.links) r.before r.after c.args.place e.element k.free_places
+    (subst (λ l. HoldsItems (table_of c.self.inside.links) l k.free_places) r.is k.holds)).previous
 
 pub link_last-requires-clause-last : goal.link_last-requires-clause-last
 link_last-requires-clause-last g c =

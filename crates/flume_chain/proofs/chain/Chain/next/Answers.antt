@@ -16,7 +16,7 @@ pub returns-then-next : goal.returns-then-next
 returns-then-next g c =
     let k = c.self.invariant in
     let e = standing _ _ _ c.in-Some.ensures.value in
-    let a = after_is (table_of c.self.inside.links) k.items k.frees c.args.place e.element k.holds e.is in
+    let a = after_is (table_of c.self.inside.links) k.items k.free_places c.args.place e.element k.holds e.is in
     record {
       next = a.none (sym c.next-next.ensures.next ∙ c.if-next.true)
           ∙ ap (λ l. place_after l c.args.place)
@@ -27,7 +27,7 @@ pub returns : goal.returns
 returns g c =
     let k = c.self.invariant in
     let e = standing _ _ _ c.in-Some.ensures.value in
-    let a = after_is (table_of c.self.inside.links) k.items k.frees c.args.place e.element k.holds e.is in
+    let a = after_is (table_of c.self.inside.links) k.items k.free_places c.args.place e.element k.holds e.is in
     record {
       next = ap Some c.next-next.ensures.next ∙ a.some (λ e. c.if-next.false (c.next-next.ensures.next ∙ e))
           ∙ ap (λ l. place_after l c.args.place)

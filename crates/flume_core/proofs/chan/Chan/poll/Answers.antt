@@ -1,7 +1,7 @@
 -- How a parked receiver is answered that asks again.
 use Rattle.std.proofs.Common.{◌≡◌, true, [], Some, refl, rules}
 use Rattle.flume_model.specs.Limits.{IsOpen, IsClosed}
-use Rattle.flume_state.specs.Receivers.{receiver_status, looks, waits_on}
+use Rattle.flume_state.specs.Receivers.{receiver_status, looks_at_line, waits_on}
 use Rattle.flume_state.specs.Effects.{with_front}
 use Rattle.flume_core.proofs.AnsweringLemmas.{closed_where}
 use Rattle.flume_core.proofs.AskLemmas.{poll_none, poll_collects, poll_waits, poll_takes, poll_waits_on, poll_ends}
@@ -24,7 +24,7 @@ pub returns-in-Some-take_front : goal.returns-in-Some-take_front
 returns-in-Some-take_front g c =
     let st = c.in-Some.status in
     let is : receiver_status c.args.ticket c.args.self.now.entries ≡ Some st = search rules in
-    let looking : looks (Some st) ≡ true = looks_else st c.in_default-status.not-Filled c.in_default-status.not-BlockWaiting in
+    let looking : looks_at_line (Some st) ≡ true = looks_else st c.in_default-status.not-Filled c.in_default-status.not-BlockWaiting in
     let front = c.in-Some-take_front.ensures.some in
     record {
       step = λ o log h. poll_takes o log c.args.self.now _ c.args.ticket st c.in-Some-take_front.message front.0 h is looking front.1
@@ -46,7 +46,7 @@ pub returns-then-is_open : goal.returns-then-is_open
 returns-then-is_open g c =
     let st = c.in-Some.status in
     let is : receiver_status c.args.ticket c.args.self.now.entries ≡ Some st = search rules in
-    let looking : looks (Some st) ≡ true = looks_else st c.in_default-status.not-Filled c.in_default-status.not-BlockWaiting in
+    let looking : looks_at_line (Some st) ≡ true = looks_else st c.in_default-status.not-Filled c.in_default-status.not-BlockWaiting in
     let none : (with_front c.args.self.now).queue ≡ [] = search rules in
     let open_ : IsOpen c.args.self.now.senders c.args.self.now.receivers = search rules in
     record {
@@ -69,7 +69,7 @@ pub returns : goal.returns
 returns g c =
     let st = c.in-Some.status in
     let is : receiver_status c.args.ticket c.args.self.now.entries ≡ Some st = search rules in
-    let looking : looks (Some st) ≡ true = looks_else st c.in_default-status.not-Filled c.in_default-status.not-BlockWaiting in
+    let looking : looks_at_line (Some st) ≡ true = looks_else st c.in_default-status.not-Filled c.in_default-status.not-BlockWaiting in
     let none : (with_front c.args.self.now).queue ≡ [] = search rules in
     let closed : IsClosed c.args.self.now.senders c.args.self.now.receivers = closed_where _ _ (search rules) in
     record {

@@ -2,7 +2,7 @@
 use Rattle.std.proofs.Common.{refl, ◌∙◌, rules, eq-eqb}
 use Rattle.flume_model.specs.Limits.{IsClosed}
 use Rattle.flume_state.specs.Notices.{with_signal}
-use Rattle.flume_state.specs.Sends.{noticed_send}
+use Rattle.flume_state.specs.Sends.{with_send_notice}
 use Rattle.flume_core.proofs.InvariantLemmas.{still, still_signal}
 use Rattle.flume_core.proofs.MoveLemmas.{accepts}
 use Rattle.flume_core.proofs.ViewLemmas.{open_at_log, closed_at_log}
@@ -31,7 +31,7 @@ returns-in-Some-false-clause-step g c o log h =
 pub returns-in-Some-false-2-clause-step : goal.returns-in-Some-false-2-clause-step
 returns-in-Some-false-2-clause-step g c o log h =
     let waiting = waits o log c.args.self.now c.args.ticket h cc in
-    still_signal o log _ c.args.self.now _ (noticed_send (with_signal c.args.signal) c.args.ticket c.args.self.now.sends) h
+    still_signal o log _ c.args.self.now _ (with_send_notice (with_signal c.args.signal) c.args.ticket c.args.self.now.sends) h
     (waiting, open_at_log h (search rules)) refl c.replace_signal.ensures.replaced
     (same_marks_noticed (with_signal c.args.signal) c.args.self.now.sends c.args.ticket)
 

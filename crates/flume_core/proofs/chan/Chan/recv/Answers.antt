@@ -19,9 +19,9 @@ returns-in_default-clause-possible_reply g c =
 pub returns-clause-step : goal.returns-clause-step
 returns-clause-step g c o log h =
     let same = c.self.view_is ∙ c.in-Empty.ensures.unchanged tt in
-    let next : c.self.inside.next ≡ c.args.self.now.next = ap (λ s. s.next) same in
+    let next : c.self.inside.next_ticket ≡ c.args.self.now.next_ticket = ap (λ s. s.next_ticket) same in
     let found = c.in-Empty.ensures.empty.0 refl in
-    let some_left : c.args.self.now.next < most = rw (← next) (search rules) in
+    let some_left : c.args.self.now.next_ticket < most = rw (← next) (search rules) in
     parks o log _ c.args.self.now _ c.args.kind c.args.signal h
     (empty_line o log c.args.self.now h found.0, open_at_log h found.1, omega (arith, h.next_is, some_left), next ∙ h.next_is)
     (rw next refl) (search rules)

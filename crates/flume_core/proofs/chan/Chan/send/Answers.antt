@@ -30,9 +30,9 @@ returns-in_default-clause-spent g c = (
 pub returns-clause-step : goal.returns-clause-step
 returns-clause-step g c o log h =
     let same = c.self.view_is ∙ c.in-Full.ensures.unchanged tt in
-    let next : c.self.inside.next ≡ c.args.self.now.next = ap (λ s. s.next) same in
+    let next : c.self.inside.next_ticket ≡ c.args.self.now.next_ticket = ap (λ s. s.next_ticket) same in
     let found = c.in-Full.ensures.full.0 (ap Full c.in-Full.ensures.possible_reply) in
-    let some_left : c.args.self.now.next < most = rw (← next) (search rules) in
+    let some_left : c.args.self.now.next_ticket < most = rw (← next) (search rules) in
     blocks o log _ c.args.self.now _ c.args.message c.args.signal c.block.new.self.space h
     (takes_none_in h found.0 found.1 found.2, omega (arith, h.next_is, some_left), next ∙ h.next_is)
     (rw next refl) (search rules)
@@ -43,16 +43,16 @@ returns-in_default-clause-becomes_due g c = λ reachable.
 
 pub returns-clause-becomes_due : goal.returns-clause-becomes_due
 returns-clause-becomes_due g c = λ reachable.
-    blocks_due c.args.self.now _ _ _ (record { ticket = c.args.self.now.next; message = c.args.message }) c.args.signal
+    blocks_due c.args.self.now _ _ _ (record { ticket = c.args.self.now.next_ticket; message = c.args.message }) c.args.signal
     c.block.new.self.space
     (λ t. refl) reachable (search rules)
 
 pub returns-in-Err-clause-step : goal.returns-in-Err-clause-step
 returns-in-Err-clause-step g c o log h =
     let same = c.self.view_is ∙ c.in-Full.ensures.unchanged tt in
-    let next : c.self.inside.next ≡ c.args.self.now.next = ap (λ s. s.next) same in
+    let next : c.self.inside.next_ticket ≡ c.args.self.now.next_ticket = ap (λ s. s.next_ticket) same in
     let found = c.in-Full.ensures.full.0 (ap Full c.in-Full.ensures.possible_reply) in
-    let some_left : c.args.self.now.next < most = rw (← next) (search rules) in
+    let some_left : c.args.self.now.next_ticket < most = rw (← next) (search rules) in
     still o log _ c.args.self.now _ h (open_at_log h found.0, (λ none. omega (arith, h.next_is, some_left)), search rules) refl
     (search rules)
 

@@ -1,6 +1,6 @@
 -- What the events so far lead to is dead only if the start is.
 use Rattle.std.proofs.Common.{◌≡◌, sym, subst, arith}
-use Rattle.flume_explain.specs.Dead.{IsDead}
+use Rattle.flume_explain.specs.Dead.{IsDeadEnd}
 use Rattle.flume_explain.specs.Reached.{AreExplained, IsReached}
 use Rattle.flume_explain.proofs.ReachedEventLemmas.{all_explained, event_reaches, reached_explained}
 use Rattle.flume_explain.proofs.FrameLemmas.{event_dead, wait_dead}
@@ -9,7 +9,7 @@ use Rattle.flume_explain.proofs.configuration.Configuration.take_forced.Goals as
 pub returns-in-Some-clause-stops : goal.returns-in-Some-clause-stops
 returns-in-Some-clause-stops g c = λ next own is gone.
     let at : next ≡ c.loop-next.next = cc in
-    c.loop-next.invariant.dead (subst (λ n. IsDead g.T.PartialEq.eq c.args.events.now n c.loop-next.self) at gone)
+    c.loop-next.invariant.dead (subst (λ n. IsDeadEnd g.T.PartialEq.eq c.args.events.now n c.loop-next.self) at gone)
 
 pub returns-then-not-may_take_event-clause-dead : goal.returns-then-not-may_take_event-clause-dead
 returns-then-not-may_take_event-clause-dead g c = λ next is.

@@ -1,7 +1,7 @@
 -- The event is spent if it leads to a dead configuration, or can't come.
 use Rattle.std.proofs.Common.{◌≡◌, ◌+◌, sym, subst, drop}
 use Rattle.flume_explain.specs.Agreement.{Agrees}
-use Rattle.flume_explain.specs.Dead.{IsDead}
+use Rattle.flume_explain.specs.Dead.{IsDeadEnd}
 use Rattle.flume_explain.specs.Reached.{Reaches}
 use Rattle.flume_explain.proofs.ReachedEventLemmas.{event_reaches}
 use Rattle.flume_explain.proofs.DeadReceiveLemmas.{spent_event, spent_wait}
@@ -16,8 +16,8 @@ returns-then-take_event-clause-leads g c = λ new at e gone.
     c.take_event.ensures.leads c.if-take_event.true o past event
     (subst (Agrees g.T.PartialEq.eq c.args.events.now o past (drop c.args.place c.args.events.now)) (sym c.in-Some.ensures.same) agrees)
     there fits)
-    (subst (λ n. IsDead g.T.PartialEq.eq c.args.events.now n c.take_event.new.self) b
-    (subst (λ s. IsDead g.T.PartialEq.eq c.args.events.now at s) a gone))
+    (subst (λ n. IsDeadEnd g.T.PartialEq.eq c.args.events.now n c.take_event.new.self) b
+    (subst (λ s. IsDeadEnd g.T.PartialEq.eq c.args.events.now at s) a gone))
 
 pub returns-then-not-may_take_event-clause-spent : goal.returns-then-not-may_take_event-clause-spent
 returns-then-not-may_take_event-clause-spent g c = λ e.

@@ -1,7 +1,7 @@
 -- A step is spent if it leads to a dead configuration, to the same one, or nowhere.
 use Rattle.std.proofs.Common.{◌≡◌, refl, sym, ap, ◌∙◌, subst, drop, arith, Contains}
 use Rattle.flume_explain.specs.Configurations.{State}
-use Rattle.flume_explain.specs.Dead.{IsDead}
+use Rattle.flume_explain.specs.Dead.{IsDeadEnd}
 use Rattle.flume_explain.specs.Reached.{Reaches}
 use Rattle.flume_explain.proofs.DeadReceiveLemmas.{spent_step, spent_same, spent_nowhere}
 use Rattle.flume_explain.proofs.configuration.Configuration.try_step.Goals as goal
@@ -13,8 +13,8 @@ returns-in-Leads-clause-leads g c = λ new at e gone.
     spent_step g.T.PartialEq.eq c.args.events.now c.args.place c.args.self.now c.in-Leads.new c.args.call c.args.other c.args.refused
     (λ t has there. c.in-Leads.ensures.leads c.in-Leads.new refl (drop c.args.place c.args.events.now) t has there
     (c.recorded-recorded.ensures.first t there))
-    (subst (λ n. IsDead g.T.PartialEq.eq c.args.events.now n c.in-Leads.new) b
-    (subst (λ s. IsDead g.T.PartialEq.eq c.args.events.now at s) a gone))
+    (subst (λ n. IsDeadEnd g.T.PartialEq.eq c.args.events.now n c.in-Leads.new) b
+    (subst (λ s. IsDeadEnd g.T.PartialEq.eq c.args.events.now at s) a gone))
 
 pub returns-in-Same-clause-spent : goal.returns-in-Same-clause-spent
 returns-in-Same-clause-spent g c = λ e.

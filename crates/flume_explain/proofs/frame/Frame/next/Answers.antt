@@ -1,7 +1,7 @@
 -- A choice that leads to a dead configuration, or is spent, is one less; with none left, the configuration is dead.
 use Rattle.std.proofs.Common.{◌≡◌, refl, sym, subst, length, arith}
 use Rattle.std.proofs.lemmas.List.{nil_from_length}
-use Rattle.flume_explain.specs.Dead.{CoverNext, IsDead}
+use Rattle.flume_explain.specs.Dead.{CoverNext, IsDeadEnd}
 use Rattle.flume_explain.specs.Reached.{Reaches}
 use Rattle.flume_explain.proofs.DeadReceiveLemmas.{dead, fewer}
 use Rattle.flume_explain.proofs.FrameLemmas.{some_left}
@@ -15,8 +15,8 @@ returns-in-Leads-clause-leads g c = λ choice new at is gone.
     (subst (CoverNext g.T.PartialEq.eq c.args.events.now c.loop-choice.self.place c.loop-choice.self.configuration) c.in-Some.ensures.items
     c.loop-choice.invariant.cover)
     (c.in-Leads.ensures.leads c.in-Leads.new c.in-Leads.at refl
-    (subst (λ n. IsDead g.T.PartialEq.eq c.args.events.now n c.in-Leads.new) b
-    (subst (λ s. IsDead g.T.PartialEq.eq c.args.events.now at s) a gone)))
+    (subst (λ n. IsDeadEnd g.T.PartialEq.eq c.args.events.now n c.in-Leads.new) b
+    (subst (λ s. IsDeadEnd g.T.PartialEq.eq c.args.events.now at s) a gone)))
 
 pub loop-choice-preserved : goal.loop-choice-preserved
 loop-choice-preserved g c = record {

@@ -1,7 +1,7 @@
 -- The newest frame leads on, or is dead; with no frame left, the start is dead.
 use Rattle.std.proofs.Common.{◌≡◌, refl, sym, subst, length, arith}
 use Rattle.std.proofs.lemmas.List.{nil_from_length}
-use Rattle.flume_explain.specs.Dead.{IsDead}
+use Rattle.flume_explain.specs.Dead.{IsDeadEnd}
 use Rattle.flume_explain.specs.Reached.{IsReached}
 use Rattle.flume_explain.proofs.SearchLemmas.{put_back, taken_off}
 use Rattle.flume_explain.proofs.FrameLemmas.{search_pop, search_leads, search_dead, search_ends}
@@ -27,8 +27,8 @@ returns-in-Ok-clause-leads g c = λ choice new at is start s.
     c.in-Some.frame c.next.new.self at new
     c.in-Some.ensures.items c.in-Ok.ensures.items c.in-Leads.ensures.same_place c.in-Leads.ensures.same
     (λ gone. c.in-Leads.ensures.leads c.in-Leads.choice c.in-Leads.new c.in-Leads.at refl
-    (subst (λ n. IsDead g.T.PartialEq.eq c.args.events.now n c.in-Leads.new) b
-    (subst (λ x. IsDead g.T.PartialEq.eq c.args.events.now at x) a gone)))
+    (subst (λ n. IsDeadEnd g.T.PartialEq.eq c.args.events.now n c.in-Leads.new) b
+    (subst (λ x. IsDeadEnd g.T.PartialEq.eq c.args.events.now at x) a gone)))
     (c.loop-frame.invariant.searches start s) in
     record { way = k.0; dead = k.1 }
 

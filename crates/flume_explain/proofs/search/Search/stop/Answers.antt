@@ -3,7 +3,7 @@ use Rattle.std.proofs.Common.{sym, ap, ◌∙◌, subst, not}
 use Rattle.std.proofs.lemmas.List.Elements.{All-contains, All-push}
 use Rattle.std.specs.List.{All}
 use Rattle.flume_explain.specs.declared.choice.Choice.TheVariants.{TakeEvent, MakeStep}
-use Rattle.flume_explain.specs.Dead.{IsDead}
+use Rattle.flume_explain.specs.Dead.{IsDeadEnd}
 use Rattle.flume_explain.specs.Search.{AreOnTheWay, dead_at}
 use Rattle.flume_explain.specs.Reached.{IsReached}
 use Rattle.flume_explain.proofs.CoverLemmas.{each_step}
@@ -13,18 +13,18 @@ use Rattle.flume_explain.proofs.search.Search.stop.Goals as goal
 
 pub returns-then-has-clause-goes_on : goal.returns-then-has-clause-goes_on
 returns-then-has-clause-goes_on g c = λ e start s. record {
-  way = way_from g.T.PartialEq.eq c.args.events.now (IsDead g.T.PartialEq.eq c.args.events.now 0 start) c.args.self.now.frames.items
-      (IsDead g.T.PartialEq.eq c.args.events.now c.args.place c.args.configuration) (Unit {0})
-      (λ x. All-contains (λ d. IsDead g.T.PartialEq.eq c.args.events.now d.place d.configuration) c.args.self.now.dead.dead.items
+  way = way_from g.T.PartialEq.eq c.args.events.now (IsDeadEnd g.T.PartialEq.eq c.args.events.now 0 start) c.args.self.now.frames.items
+      (IsDeadEnd g.T.PartialEq.eq c.args.events.now c.args.place c.args.configuration) (Unit {0})
+      (λ x. All-contains (λ d. IsDeadEnd g.T.PartialEq.eq c.args.events.now d.place d.configuration) c.args.self.now.dead.dead.items
       (dead_at c.args.place c.args.configuration) s.dead (c.has.ensures.has c.if-has.true)) s.way;
   dead = s.dead;
 }
 
 pub returns-clause-goes_on : goal.returns-clause-goes_on
 returns-clause-goes_on g c = λ e start s. record {
-  way = subst (λ l. AreOnTheWay g.T.PartialEq.eq c.args.events.now (IsDead g.T.PartialEq.eq c.args.events.now 0 start) l (Unit {0}))
+  way = subst (λ l. AreOnTheWay g.T.PartialEq.eq c.args.events.now (IsDeadEnd g.T.PartialEq.eq c.args.events.now 0 start) l (Unit {0}))
       (sym (was_pushed _ _ _ _ c.push.ensures.items (c.is_err.ensures.negation ∙ ap not c.if-is_err.false)))
-      (way_push g.T.PartialEq.eq c.args.events.now (IsDead g.T.PartialEq.eq c.args.events.now 0 start) c.args.self.now.frames.items
+      (way_push g.T.PartialEq.eq c.args.events.now (IsDeadEnd g.T.PartialEq.eq c.args.events.now 0 start) c.args.self.now.frames.items
       (record { configuration = c.args.configuration; place = c.args.place; choices = c.push_first.new.choices; depth = c.len.result })
       (Unit {0}) s.way c.requires
       (λ x. each_step g.T.PartialEq.eq c.args.events.now c.args.place c.args.configuration c.push_first.new.choices.items

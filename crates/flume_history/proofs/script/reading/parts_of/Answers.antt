@@ -18,18 +18,18 @@ returns-in_err-text-clause-none c =
     rw c.from_residual-in_err-text.ensures (λ text said none is.
     other text (at_arrow c.args.line.now c.in_ok-before.before.now c.in_ok-before.after.now parts.parts parts.first text said none is).0)
 
-pub returns-in_err-said-clause-none : goal.returns-in_err-said-clause-none
-returns-in_err-said-clause-none c =
+pub returns-in_err-reply-clause-none : goal.returns-in_err-reply-clause-none
+returns-in_err-reply-clause-none c =
     let parts = c.in_ok-before.ensures in
-    let other = strip_prefix_is Decides-eqb c.in_ok-before.after.now (codes "> ") None c.in_err-said.ensures.cases in
-    rw c.from_residual-in_err-said.ensures (λ text said none is.
+    let other = strip_prefix_is Decides-eqb c.in_ok-before.after.now (codes "> ") None c.in_err-reply.ensures.cases in
+    rw c.from_residual-in_err-reply.ensures (λ text said none is.
     other said (at_arrow c.args.line.now c.in_ok-before.before.now c.in_ok-before.after.now parts.parts parts.first text said none is).1)
 
 pub returns-clause-parts : goal.returns-clause-parts
 returns-clause-parts c =
     let parts = c.in_ok-before.ensures in
     let front = strip_suffix_is Decides-eqb c.in_ok-before.before.now (codes " ") (Some c.in_ok-text.text) c.in_ok-text.ensures.cases in
-    let back = strip_prefix_is Decides-eqb c.in_ok-before.after.now (codes "> ") (Some c.in_ok-said.said) c.in_ok-said.ensures.cases in
+    let back = strip_prefix_is Decides-eqb c.in_ok-before.after.now (codes "> ") (Some c.in_ok-reply.reply) c.in_ok-reply.ensures.cases in
     parts.parts ∙ ap (λ t. t ++ 45 ∷ c.in_ok-before.after.now) front
     ∙ ap (λ t. (c.in_ok-text.text.now ++ codes " ") ++ 45 ∷ t) back
-    ∙ sym (arrow c.in_ok-text.text.now c.in_ok-said.said.now)
+    ∙ sym (arrow c.in_ok-text.text.now c.in_ok-reply.reply.now)

@@ -40,7 +40,7 @@ invariant_of-self-in-Waiting g c =
     let mark = c.replace-mark.ensures.value ∙ ap (λ p. p.mark) (read_value _ _ _ _ s.here c.in_ok-parked.ensures.value) in
     let waits = ap is_waiting (sym mark) ∙ ap is_waiting c.in-Waiting.is in
     let left = c.discard.ensures.removed ∙ without_written c.self.inside.chain c.in_ok-place.place _ in
-    rw (left, c.boundary_without-self-inside.ensures.boundary, c.boundary_without-self-inside-2.ensures.boundary)
+    rw (left, c.start_without-self-inside.ensures.start, c.start_without-self-inside-2.ensures.start)
     (sorted_without _ _ _ _ _ _ _ _ c.self.invariant s.here c.next-next.ensures.next
     (rw waits (omega (arith, one_waits _ _ _ _ _ _ c.self.invariant s.here waits))))
 
@@ -50,7 +50,7 @@ invariant_of-self-in_default g c =
     let mark = c.replace-mark.ensures.value ∙ ap (λ p. p.mark) (read_value _ _ _ _ s.here c.in_ok-parked.ensures.value) in
     let awake = ap is_waiting (sym mark) ∙ not_waiting _ c.in_default.not-Waiting in
     let left = c.discard.ensures.removed ∙ without_written c.self.inside.chain c.in_ok-place.place _ in
-    rw (left, c.boundary_without-self-inside.ensures.boundary, c.boundary_without-self-inside-2.ensures.boundary)
+    rw (left, c.start_without-self-inside.ensures.start, c.start_without-self-inside-2.ensures.start)
     (sorted_without _ _ _ _ _ _ _ _ c.self.invariant s.here c.next-next.ensures.next (rw awake (omega arith)))
 
 pub returns-clause-held : goal.returns-clause-held

@@ -1,12 +1,12 @@
 use Rattle.std.proofs.Common.{ap, not, sym, subst}
 use Rattle.flume_state.specs.Receivers.{NoDueReceiver}
 use Rattle.flume_state.proofs.EntryPartLemmas.{read_some, read_value}
-use Rattle.flume_state.proofs.EntryNotifyLemmas.{dues_at, none_due, one_boundary, sorted_told, tells, two_boundaries}
+use Rattle.flume_state.proofs.EntryNotifyLemmas.{dues_at, none_due, same_start, sorted_told, tells, two_boundaries}
 use Rattle.flume_state.proofs.entries.Entries.take_first_due.Goals as goal
 
 pub returns-then-eq-clause-none_due : goal.returns-then-eq-clause-none_due
 returns-then-eq-clause-none_due g c =
-    let same = one_boundary c.self.inside.due c.self.inside.waits (ap not (sym c.if-eq.ensures)) in
+    let same = same_start c.self.inside.due c.self.inside.waits (ap not (sym c.if-eq.ensures)) in
     subst NoDueReceiver c.self.view_is (none_due _ _ _ _ c.self.invariant same)
 
 pub returns-in_err-ticket-clause-none_due : goal.returns-in_err-ticket-clause-none_due

@@ -56,8 +56,8 @@ invariant_of-self-2 g c =
       back,
       c.or-self-inside.ensures,
       c.or-self-inside-2.ensures,
-      c.boundary_without.ensures.boundary,
-      c.boundary_without-2.ensures.boundary,
+      c.start_without.ensures.start,
+      c.start_without-2.ensures.start,
       asked,
     )
     (again_sorted _ _ _ _ _ _ _ c.args.signal _ c.self.invariant q refl woken c.next-next.ensures.next)

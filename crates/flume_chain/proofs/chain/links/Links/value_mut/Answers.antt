@@ -4,7 +4,7 @@ use Rattle.std.specs.Option.{option_map}
 use Rattle.std.specs.Vec.{vec_len, with_item}
 use Rattle.flume_chain.specs.declared.chain.node.Node.{Node}
 use Rattle.flume_chain.specs.declared.labelled.LabelledValue.{LabelledValue}
-use Rattle.flume_chain.specs.Links.{no_node, element_of, with_value_of}
+use Rattle.flume_chain.specs.Links.{no_node, element_of, node_with_value}
 use Rattle.flume_chain.proofs.WriteLemmas.{node_below}
 use Rattle.flume_chain.proofs.chain.links.Links.value_mut.Goals as goal
 
@@ -18,7 +18,7 @@ returns g c =
         refl {a = c.value_mut.result.ghost_name},
         λ w. ap (λ (x : Node g.row.L.Denot g.row.E.Denot). record s {
           nodes =
-              with_item s.nodes c.args.place (with_value_of x w);
+              with_item s.nodes c.args.place (node_with_value x w);
         }) is,
       ),
       record {

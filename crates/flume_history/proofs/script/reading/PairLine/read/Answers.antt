@@ -17,7 +17,7 @@ returns-in_err-step c =
     rw c.from_residual-in_err-step.ensures (record {
       value = λ pair is.
           let plain = step_plain is.step_text pair.0 is.is_step in
-          let same = one_arrow c.in_ok-text.text.now is.step_text c.in_ok-text.said.now pair.1 parts.first plain (sym parts.parts
+          let same = one_arrow c.in_ok-text.text.now is.step_text c.in_ok-text.reply.now pair.1 parts.first plain (sym parts.parts
           ∙ is.line_is) in
           c.in_err-step.ensures.value pair.0 (subst (λ text. IsStepLine text pair.0) (sym same) is.is_step);
     })

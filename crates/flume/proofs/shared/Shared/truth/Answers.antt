@@ -1,6 +1,0 @@
--- The step was made.
-use Rattle.flume.proofs.StepLemmas.{step_replied}
-use Rattle.flume.proofs.shared.Shared.truth.Goals as goal
-
-pub returns : goal.returns
-returns g c = record { made = step_replied c.call.ensures.made }
