@@ -65,7 +65,7 @@ impl<'a, T: Drop, R: Waits, A: Allocator + Copy> SendSink<'a, T, R, A> {
     }
 
     /// Sends these messages in order, behind one that the sink keeps. `Ok`: all are sent, and the
-    /// list has lost its room. Pending: the sink keeps the next message. An error has the first one
+    /// list has lost its room. Pending: the sink keeps the next one. An error has the first that
     /// wasn't sent, and the sink keeps none. Those behind it stay in the list.
     /// ```
     /// let (tx, rx) = flume::on(rt).bounded(1)?;
