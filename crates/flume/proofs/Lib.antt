@@ -2,8 +2,10 @@ mod InTimeLemmas
 mod ManyReceiveLemmas
 mod ManyReceiveStepLemmas
 mod ManySendLemmas
+mod ManySendPollLemmas
 mod ManySendStepLemmas
 pub mod OutlivesLemmas
 mod ReceivePollLemmas
+mod SelectionLemmas
 mod SendPollLemmas
 mod StepLemmas

@@ -9,6 +9,7 @@ use Rattle.flume_model.specs.declared.step.Reply.TheVariants as reply
 use Rattle.flume_model.specs.Log.{Log, Opening}
 use Rattle.flume_model.specs.Replies.{IsRun}
 use Rattle.flume_state.specs.State.{State}
+use Rattle.flume_core.specs.Represents.{IsReachable}
 use Rattle.flume_core.specs.declared.error.TrySendError.{TrySendError}
 use Rattle.flume_core.specs.declared.error.TrySendError.TheVariants.{Full, Disconnected, NoMemory}
 use Rattle.flume_core.specs.declared.error.SendTimeoutError.{SendTimeoutError}
@@ -23,24 +24,29 @@ use Rattle.flume.specs.ManySendSteps.{SendsBatch, SendsFirst, TakenIn, ComesBack
 use Rattle.flume.proofs.ManyReceiveStepLemmas.{steps_run}
 
 module _ {T S A : Type 0} where
+  -- a batch of a channel that a run led to
+  pub batch_at : {old new : State T S} {messages : List T} {batch : Result (Unit {0}) (TrySendError (VecDeque T A))}
+      {answer : Result (Unit {0}) (TrySendError (List T))} → IsReachable A old → IsBatch {A = A} (SendsMany messages) old new batch
+      → answer ≡ try_result_list deque_items batch → SendsBatch A messages answer
+  batch_at {batch = batch} reachable turn is = record {
+    batch = batch;
+    made = record {
+      opening = reachable.0;
+      log = reachable.1;
+      made = turn.made;
+      run = steps_run reachable.0 reachable.1 reachable.2 turn.reachable;
+      answered = turn.answered;
+    };
+    answer_is = is;
+  }
+
   -- a batch under the lock is one of some channel
   pub batch_made : {items messages : List T} {outcome : State T S → State T S → Result (Unit {0}) (TrySendError (VecDeque T A)) → Type 0}
       {batch : Result (Unit {0}) (TrySendError (VecDeque T A))} {answer : Result (Unit {0}) (TrySendError (List T))}
       → HasDone A (λ old new answer. IsBatch {A = A} (SendsMany items) old new answer × outcome old new answer) batch → items ≡ messages
       → answer ≡ try_result_list deque_items batch → SendsBatch A messages answer
-  batch_made {batch = batch} {answer = answer} done same is =
-      let turn = done.turn.0 in
-      subst (λ list. SendsBatch A list answer) same (record {
-        batch = batch;
-        made = record {
-          opening = done.opening;
-          log = done.log;
-          made = turn.made;
-          run = steps_run done.opening done.log done.represents turn.reachable;
-          answered = turn.answered;
-        };
-        answer_is = is;
-      })
+  batch_made {answer = answer} done same is =
+      subst (λ list. SendsBatch A list answer) same (batch_at (done.opening, done.log, done.represents) done.turn.0 is)
 
 module _ {T A : Type 0} where
   -- the last step of a batch that found the channel full offered the first message of those that it left

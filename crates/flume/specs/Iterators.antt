@@ -5,15 +5,21 @@ use Rattle.std.specs.Result.{result_ok, result_err}
 use Rattle.flume_deadline.specs.declared.Deadline.{Deadline}
 use Rattle.flume_deadline.specs.declared.Deadline.TheVariants.{Never}
 use Rattle.flume_deadline.specs.Deadlines.{CanBeAhead}
+use Rattle.flume_model.specs.declared.step.Step.TheVariants.{TryRecv}
 use Rattle.flume_model.specs.declared.step.Reply.{Reply}
 use Rattle.flume_model.specs.declared.step.Reply.TheVariants.{Drained}
 use Rattle.flume_model.specs.declared.step.Reply.TheVariants as reply
 use Rattle.flume_core.specs.declared.error.RecvError.{RecvError}
 use Rattle.flume_core.specs.declared.error.RecvError.TheVariants as recv_error
+use Rattle.flume_core.specs.declared.error.TryRecvError.{TryRecvError}
+use Rattle.flume_core.specs.declared.error.TryRecvError.TheVariants as try_recv
 use Rattle.flume_core.specs.declared.error.RecvTimeoutError.{RecvTimeoutError}
 use Rattle.flume_core.specs.declared.error.RecvTimeoutError.TheVariants as timeout
 use Rattle.flume_core.specs.declared.error.NoMemory.{NoMemory}
+use Rattle.flume_calls.specs.ReceiveTurns.{after_try_recv}
+use Rattle.flume.specs.CallSteps.{receive_as_timed, try_receive_as_turn}
 use Rattle.flume.specs.GateSteps.{Receives}
+use Rattle.flume.specs.LockedTurns.{HasMade}
 
 -- what a contract sees of an iterator over received messages, whose calls no run uses up
 pub record IterValue : Type 0 where
@@ -25,11 +31,36 @@ pub record IterValue : Type 0 where
 abbrev pub new_iter : ℕ → IterValue
 new_iter channel = record { channel = channel; fault = false; calls_left = 2 ^ 64 - 1 }
 
--- one `next`
-pub record IsNext {T : Type 0} (old : IterValue) (item : Option T) (new : IterValue) : Type 0 where
-  pub channel : new.channel ≡ old.channel
-  pub calls_left : old.calls_left ≡ new.calls_left + 1
-  pub fault : new.fault ≡ true → item ≡ None
+module _ {T : Type 0} where
+  -- whether a receive was refused because memory ran out
+  abbrev pub is_refused : Result T RecvError → Bool
+  is_refused (Err recv_error.NoMemory) = true
+  is_refused _ = false
+
+module _ {T : Type 0} (A : Type 0) where
+  -- a `recv` was made, whose answer has this item and tells whether there is a fault
+  pub record HasReceived (item : Option T) (fault : Bool) : Type 0 where
+    pub answer : Result T RecvError
+    pub made : Receives A Never (receive_as_timed answer)
+    pub item_is : item ≡ result_ok answer
+    pub fault_is : fault ≡ is_refused answer
+
+  -- one `next` of an iterator that waits
+  pub record IsNext (old : IterValue) (item : Option T) (new : IterValue) : Type 0 where
+    pub channel : new.channel ≡ old.channel
+    pub calls_left : old.calls_left ≡ new.calls_left + 1
+    pub fault : new.fault ≡ true → item ≡ None
+    pub received : HasReceived item new.fault
+
+  -- one `next` of an iterator that doesn't wait: a `try_recv`
+  pub record IsTryNext (old : IterValue) (item : Option T) (new : IterValue) : Type 0 where
+    pub channel : new.channel ≡ old.channel
+    pub calls_left : old.calls_left ≡ new.calls_left + 1
+    pub no_fault : new.fault ≡ false
+    pub answer : Result T TryRecvError
+    pub made : HasMade {A = A} TryRecv after_try_recv (try_receive_as_turn answer)
+    pub had_memory : answer ≢ Err try_recv.NoMemory
+    pub item_is : item ≡ result_ok answer
 
 -- what a contract sees of an iterator that ends at a deadline
 pub record DeadlineIterValue : Type 0 where
@@ -54,12 +85,6 @@ pub record IsNextInTime {T : Type 0} (A : Type 0) (old : DeadlineIterValue) (ite
   pub ahead : new.end ≢ Some timeout.Timeout → CanBeAhead old.deadline
   pub made : new.end ≢ Some timeout.Timeout → (answer : Result T RecvTimeoutError)
       × Receives A old.deadline answer × (item ≡ result_ok answer) × (new.end ≡ result_err answer)
-
-module _ {T : Type 0} where
-  -- whether a receive was refused because memory ran out
-  abbrev pub is_refused : Result T RecvError → Bool
-  is_refused (Err recv_error.NoMemory) = true
-  is_refused _ = false
 
 module _ {T A : Type 0} where
   -- the answer of a drain to its step's reply

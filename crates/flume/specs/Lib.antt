@@ -10,8 +10,10 @@ pub mod LockedTurns
 pub mod ManyReceiveCalls
 pub mod ManyReceiveSteps
 pub mod ManySendCalls
+pub mod ManySendPolls
 pub mod ManySendSteps
 pub mod OwnedEnds
 pub mod ReceivePolls
+pub mod SelectionCalls
 pub mod Selections
 pub mod SendPolls

@@ -1,5 +1,5 @@
 -- What a contract sees of a turn that is made under a channel's lock.
-use Rattle.std.specs.Prelude.{◌∷◌}
+use Rattle.std.specs.Prelude.{◌≡◌, ℕ, ◌∷◌}
 use Rattle.flume_model.specs.declared.step.Step.{Step}
 use Rattle.flume_model.specs.declared.step.Reply.{Reply}
 use Rattle.flume_model.specs.Log.{Log, Opening}
@@ -15,6 +15,14 @@ module _ {T A N : Type 0} where
     pub reply : Reply T A
     pub run : IsRun opening ((step, reply) ∷ log)
     pub answered : table reply answer
+
+module _ (T A : Type 0) where
+  -- some channel's run leaves so many of what is counted
+  pub record HasCounted (count : Opening → Log T A → ℕ) (answer : ℕ) : Type 0 where
+    pub opening : Opening
+    pub log : Log T A
+    pub run : IsRun opening log
+    pub counted : answer ≡ count opening log
 
 module _ {T S N : Type 0} (A : Type 0) where
   -- Some channel that a run led to did this. No clause can say that it is the caller's; tests do.

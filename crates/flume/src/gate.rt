@@ -60,7 +60,7 @@ impl<T: Drop, R: Waits, A: Allocator + Copy> SendGate<T> for Gate<'_, T, R, A> {
     }
 
     #[inline(always)]
-    fn make_waiter(&mut self) -> Option<(Arc<Parker, A>, Signal<A>)> {
+    fn arm(&mut self) -> Option<(Arc<Parker, A>, Signal<A>)> {
         self.shared.new_parker()
     }
 
@@ -104,7 +104,7 @@ impl<T: Drop, R: Waits, A: Allocator + Copy> RecvGate<T> for Gate<'_, T, R, A> {
     }
 
     #[inline(always)]
-    fn make_waiter(&mut self) -> Option<(Arc<Parker, A>, Signal<A>)> {
+    fn arm(&mut self) -> Option<(Arc<Parker, A>, Signal<A>)> {
         self.shared.new_parker()
     }
 

@@ -64,7 +64,7 @@ impl<T: Drop, R: Waits, A: Allocator + Copy> IntoIter<T, R, A> {
 impl<T: Drop, R: Waits, A: Allocator + Copy> Iterator for IntoIter<T, R, A> {
     type Item = T;
 
-    ghost next_gives = { IsNext };
+    ghost next_gives = { IsNext A };
 
     ghost remaining = { λ it. at_most it.calls_left };
 

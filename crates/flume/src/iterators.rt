@@ -1,7 +1,7 @@
 //! Iterators that borrow their receiver.
 ghost use Rattle.std.specs.Prelude.{◌≡◌, ◌↔◌, true, false, IsErr};
 ghost use Rattle.std.specs.Iterator.{at_most};
-ghost use Rattle.flume.specs.Iterators.{new_iter, IsNext};
+ghost use Rattle.flume.specs.Iterators.{new_iter, IsNext, IsTryNext};
 
 use crate::progress::Progress;
 use crate::receiver::Receiver;
@@ -91,7 +91,7 @@ impl<'a, T: Drop, R: Waits, A: Allocator + Copy> Iter<'a, T, R, A> {
 impl<'a, T: Drop, R: Waits, A: Allocator + Copy> Iterator for Iter<'a, T, R, A> {
     type Item = T;
 
-    ghost next_gives = { IsNext };
+    ghost next_gives = { IsNext A };
 
     ghost remaining = { λ it. at_most it.calls_left };
 
@@ -148,7 +148,7 @@ impl<'a, T: Drop, R: Waits, A: Allocator + Copy> TryIter<'a, T, R, A> {
         }
     }
 
-    /// Never: it doesn't allocate.
+    /// Never: `try_recv` is never refused memory.
     pub fn fault(&self) -> bool
         ensures never { result ≡ false }
     {
@@ -159,7 +159,7 @@ impl<'a, T: Drop, R: Waits, A: Allocator + Copy> TryIter<'a, T, R, A> {
 impl<'a, T: Drop, R: Waits, A: Allocator + Copy> Iterator for TryIter<'a, T, R, A> {
     type Item = T;
 
-    ghost next_gives = { IsNext };
+    ghost next_gives = { IsTryNext A };
 
     ghost remaining = { λ it. at_most it.calls_left };
 

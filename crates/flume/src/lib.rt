@@ -43,6 +43,10 @@
 //! let job = Selector::new().recv(&stopped, |_| None).recv(&work, Result::ok);
 //! assert_eq!(rt; job.wait()?, Some(7));
 //! ```
+//! A call that takes the channel's lock may wait. That it returns isn't proved. If a comment says
+//! *doesn't allocate*, tests play the call while all memory is refused; no clause says it. The
+//! *same channel* is one of the same number, since a contract sees of an end nothing else.
+//!
 //! The repository's docs/USING.md has more recipes, its README.md says what is proved.
 #![tactic(auto)]
 
@@ -80,7 +84,7 @@ pub use flume_core::error::{
 };
 pub use flume_core::{chan, error, facts, run, step};
 pub use flume_history::check::{Checked, check_history};
-pub use flume_script::{ScriptOutput, run_script};
+pub use flume_script::{Script, ScriptOutput, run_script};
 pub use into_iter::IntoIter;
 pub use iterators::{Iter, TryIter};
 pub use opening::{bounded, unbounded};

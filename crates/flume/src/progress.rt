@@ -1,7 +1,7 @@
 //! How far an iterator over received messages has come.
 ghost use Rattle.std.specs.Prelude.{◌≡◌, ◌+◌, ◌-◌, ◌^◌, true, false, None};
 ghost use Rattle.std.specs.Result.{result_ok};
-ghost use Rattle.flume.specs.Iterators.{is_refused};
+ghost use Rattle.flume.specs.Iterators.{HasReceived, is_refused};
 
 use crate::receiver::Receiver;
 use crate::shared::Waits;
@@ -11,7 +11,8 @@ use std::sync::Wait;
 
 #[derive(Drop)]
 pub(crate) struct Progress {
-    // So that a loop over the iterator is proved to end. No run uses them up: `next` would wait.
+    // So that a loop over the iterator is proved to end. After the last one `next` hangs; no run
+    // comes that far.
     calls_left: u64,
     pub(crate) fault: bool,
 }
@@ -44,6 +45,7 @@ impl Progress {
     ) -> Option<T>
         ensures calls_left { self.old.calls_left ≡ self.new.calls_left + 1 }
         ensures fault { self.new.fault ≡ true → result ≡ None }
+        ensures received { HasReceived A result self.new.fault }
     {
         self.count(&receiver.shared().rt);
         self.item(receiver.recv())

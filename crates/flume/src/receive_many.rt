@@ -235,7 +235,7 @@ impl<T: Drop, R: Waits, A: Allocator + Copy> RecvGate<usize> for ManyGate<'_, T,
     }
 
     // With room for one message, so that the parked call can always take what it is woken for.
-    fn make_waiter(&mut self) -> Option<(Arc<Parker, A>, Signal<A>)> {
+    fn arm(&mut self) -> Option<(Arc<Parker, A>, Signal<A>)> {
         self.buffer.try_reserve(1).ok()?;
         self.shared.new_parker()
     }

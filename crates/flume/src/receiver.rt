@@ -1,5 +1,8 @@
 //! The receivers of a channel.
-ghost use Rattle.std.specs.Prelude.{◌≡◌, ◌≢◌, ℕ, ◌==◌, IfOk, Err};
+ghost use Rattle.std.specs.Prelude.{◌≡◌, ◌≢◌, ℕ, ◌==◌, IfOk, Err, length};
+ghost use Rattle.flume_model.specs.Entries.{waiting_count};
+ghost use Rattle.flume_model.specs.Line.{blocked};
+ghost use Rattle.flume_model.specs.Parked.{entries};
 ghost use Rattle.flume_calls.specs.ReceiveTurns.{after_try_recv};
 ghost use Rattle.flume_calls.specs.Singles.{after_set_capacity};
 ghost use Rattle.flume_deadline.specs.declared.Deadline.{Deadline};
@@ -9,7 +12,7 @@ ghost use Rattle.flume.specs.CallSteps as answer;
 ghost use Rattle.flume.specs.GateSteps.{Receives};
 ghost use Rattle.flume.specs.Iterators.{after_drain};
 ghost use Rattle.flume.specs.ManyReceiveSteps.{FindsNone};
-ghost use Rattle.flume.specs.LockedTurns.{HasMade};
+ghost use Rattle.flume.specs.LockedTurns.{HasCounted, HasMade};
 ghost use Rattle.flume.specs.Iterators.{new_iter};
 
 use crate::answers::{receive_answer, try_receive_answer};
@@ -118,7 +121,8 @@ impl<T: Drop, R: Waits, A: Allocator + Copy> Receiver<T, R, A> {
         recv_over(&self.shared.rt, &mut gate)
     }
 
-    /// The messages, one after the other. It waits for each, and ends if `recv` fails.
+    /// The messages, one after the other. It waits for each, and ends if `recv` fails. That a `for`
+    /// over them ends is proved only by a count of 2^64 - 1 calls of `next`, after which it hangs.
     pub fn iter(&self) -> Iter<'_, T, R, A>
         ensures new { result ≡ new_iter self.now }
     {
@@ -227,7 +231,7 @@ impl<T: Drop, R: Waits, A: Allocator + Copy> Receiver<T, R, A> {
     }
 
     /// How many sends are blocked: calls, polled futures and sinks, and arms of selections. One
-    /// whose channel closed counts until it has its message back. Doesn't allocate.
+    /// whose channel closed counts until it has its message back.
     /// ```
     /// let (tx, rx) = flume::on(rt).bounded::<u64>(0)?;
     /// let sender = thread::spawn(&rt, move || tx.send(7))?;
@@ -241,13 +245,18 @@ impl<T: Drop, R: Waits, A: Allocator + Copy> Receiver<T, R, A> {
     /// assert_eq!(rt; rx.blocked_senders(), 0);
     /// assert_eq!(rt; sender.join(&rt), Ok(()));
     /// ```
-    pub fn blocked_senders(&self) -> usize {
-        self.shared.lock().blocked_len()
+    pub fn blocked_senders(&self) -> usize
+        ensures counted { HasCounted T A (λ opening log. length (blocked opening log)) result }
+    {
+        self.shared.blocked_len()
     }
 
     /// As `Sender::waiting_receivers`.
-    pub fn waiting_receivers(&self) -> usize {
-        self.shared.lock().waiting_len()
+    pub fn waiting_receivers(&self) -> usize
+        ensures counted { HasCounted T A (λ opening log. waiting_count (entries opening log))
+            result }
+    {
+        self.shared.waiting_len()
     }
 }
 

@@ -1,10 +1,14 @@
 //! Waiting for the first of several sends and receives.
-ghost use Rattle.std.specs.Prelude.{◌≡◌, ◌≢◌, ◌<◌, ℕ, IfOk, IfSome, Err, true};
+ghost use Rattle.std.specs.Prelude.{◌≡◌, ◌≢◌, ◌<◌, ℕ, IfOk, IfSome, Err};
 ghost use Rattle.flume_core.specs.declared.error.SelectError.{SelectError};
 ghost use Rattle.flume.specs.declared.select.send.SendState.{SendState};
 ghost use Rattle.flume.specs.declared.select.receive.ReceiveState.{ReceiveState};
 ghost use Rattle.flume.specs.Selections.{IsValue, first_arm};
+ghost use Rattle.flume.specs.GateSteps.{WaitsUpTo};
+ghost use Rattle.flume.specs.SelectionCalls.{Tries, Selects, wait_as_timed};
+ghost use Rattle.flume_deadline.specs.declared.Deadline.{Deadline};
 ghost use Rattle.flume_deadline.specs.declared.Deadline.TheVariants.{Never};
+ghost use Rattle.flume_deadline.specs.Deadlines.{IsAfter};
 
 mod adding;
 mod arms;
@@ -143,6 +147,8 @@ impl<'a, V, L: AtLeastOneArm<V, A> + Drop, A: Allocator + Copy> Selector<'a, V, 
     pub fn wait(self) -> Result<V, NoMemory>
         requires can_map { L.can_map (L.mappers self.arms) }
         ensures value { IfOk result (IsValue L.count L.maps (L.mappers self.entry.arms)) }
+        ensures made { Selects L.turns L.withdraws L.answers (L.count (L.mappers self.entry.arms))
+            self.entry.start Deadline.Never self.entry.arms (wait_as_timed result) }
     {
         match self.select(Deadline::Never) {
             Ok(value) => Ok(value),
@@ -155,6 +161,8 @@ impl<'a, V, L: AtLeastOneArm<V, A> + Drop, A: Allocator + Copy> Selector<'a, V, 
     pub fn wait_deadline(self, deadline: Instant) -> Result<V, SelectError>
         requires can_map { L.can_map (L.mappers self.arms) }
         ensures value { IfOk result (IsValue L.count L.maps (L.mappers self.entry.arms)) }
+        ensures made { Selects L.turns L.withdraws L.answers (L.count (L.mappers self.entry.arms))
+            self.entry.start (Deadline.At deadline) self.entry.arms result }
     {
         self.select(Deadline::At(deadline))
     }
@@ -163,6 +171,9 @@ impl<'a, V, L: AtLeastOneArm<V, A> + Drop, A: Allocator + Copy> Selector<'a, V, 
     pub fn wait_timeout(self, timeout: Duration) -> Result<V, SelectError>
         requires can_map { L.can_map (L.mappers self.arms) }
         ensures value { IfOk result (IsValue L.count L.maps (L.mappers self.entry.arms)) }
+        ensures made { (deadline : Deadline) × IsAfter timeout deadline × Selects L.turns
+            L.withdraws L.answers (L.count (L.mappers self.entry.arms)) self.entry.start deadline
+            self.entry.arms result }
     {
         let deadline = Deadline::after(&self.arms.runtime(), timeout);
         self.select(deadline)
@@ -183,6 +194,8 @@ impl<'a, V, L: AtLeastOneArm<V, A> + Drop, A: Allocator + Copy> Selector<'a, V, 
         requires can_map { L.can_map (L.mappers self.arms) }
         ensures value { IfOk result (λ value. IfSome value
             (IsValue L.count L.maps (L.mappers self.entry.arms))) }
+        ensures made { Tries L.turns L.answers (L.count (L.mappers self.entry.arms))
+            self.entry.start self.entry.arms result }
     {
         match try_select_over(&mut self)? {
             Some(arm) => Ok(self.arms.value(arm)),
@@ -190,10 +203,12 @@ impl<'a, V, L: AtLeastOneArm<V, A> + Drop, A: Allocator + Copy> Selector<'a, V, 
         }
     }
 
-    // Tried before the parker is made: a selection that is ready at once doesn't allocate.
+    // Tried before the parker is made: a selection that is ready at once makes none.
     fn select(mut self, deadline: Deadline) -> Result<V, SelectError>
         requires can_map { L.can_map (L.mappers self.arms) }
         ensures value { IfOk result (IsValue L.count L.maps (L.mappers self.entry.arms)) }
+        ensures made { Selects L.turns L.withdraws L.answers (L.count (L.mappers self.entry.arms))
+            self.entry.start deadline self.entry.arms result }
         ensures in_time { deadline ≡ Never → result ≢ Err SelectError.Timeout }
     {
         let rt = self.arms.runtime();
@@ -226,9 +241,11 @@ impl<'a, V, L: AtLeastOneArm<V, A>, A: Allocator + Copy> SelectGate for Selector
 
     ghost makes = { λ old new _. new ≡ old };
 
-    ghost turns = { λ parks old arm new next. L.turns parks old.arms arm next new.arms };
+    ghost turns = { λ parks old arm new next.
+        L.turns parks old.arms arm new.arms next × (new.deadline ≡ old.deadline) };
 
-    ghost waits = { λ old new expired. (new ≡ old) × (expired ≡ true → old.deadline ≢ Never) };
+    ghost waits = { λ old new expired.
+        (new ≡ old) × WaitsUpTo old.deadline old.deadline expired };
 
     ghost withdraws = { λ old arm new. L.withdraws old.arms arm new.arms };
 

@@ -24,7 +24,8 @@ use std::collections::VecDeque;
 use std::time::{Duration, Instant};
 
 impl<T: Drop, R: Waits, A: Allocator + Copy> Sender<T, R, A> {
-    /// Sends messages in order, as many as the channel takes in, with the errors of `try_send`.
+    /// Sends messages in order, as many as the channel takes in, with the errors of `try_send`. An
+    /// error has those that weren't taken in, in order; the messages before them stay sent.
     /// ```
     /// let (tx, rx) = flume::on(rt).bounded(2)?;
     /// let full = tx.try_send_many(vec![in rt.alloc(); 1, 2, 3]?);
@@ -44,7 +45,8 @@ impl<T: Drop, R: Waits, A: Allocator + Copy> Sender<T, R, A> {
         try_send_many_answer(self.shared().call_many(SendMany { messages }))
     }
 
-    /// Sends messages in order, as `send` does. Messages of other senders may come between.
+    /// Sends messages in order, as `send` does. Messages of other senders may come between. An
+    /// error is as of `try_send_many`.
     /// ```
     /// let (tx, rx) = flume::on(rt).unbounded()?;
     /// tx.send_many(vec![in rt.alloc(); 1, 2, 3]?)?;

@@ -1,5 +1,8 @@
 //! The senders of a channel.
-ghost use Rattle.std.specs.Prelude.{◌≡◌, ◌≢◌, ℕ, ◌==◌, IfOk, Err};
+ghost use Rattle.std.specs.Prelude.{◌≡◌, ◌≢◌, ℕ, ◌==◌, IfOk, Err, length};
+ghost use Rattle.flume_model.specs.Entries.{waiting_count};
+ghost use Rattle.flume_model.specs.Line.{blocked};
+ghost use Rattle.flume_model.specs.Parked.{entries};
 ghost use Rattle.flume_calls.specs.SendTurns.{after_try_send};
 ghost use Rattle.flume_calls.specs.Singles.{after_set_capacity};
 ghost use Rattle.flume_deadline.specs.declared.Deadline.{Deadline};
@@ -7,7 +10,7 @@ ghost use Rattle.flume_deadline.specs.Deadlines.{IsAfter};
 ghost use Rattle.flume.specs.CallSteps.{HasReplied};
 ghost use Rattle.flume.specs.CallSteps as answer;
 ghost use Rattle.flume.specs.GateSteps.{Sends};
-ghost use Rattle.flume.specs.LockedTurns.{HasMade};
+ghost use Rattle.flume.specs.LockedTurns.{HasCounted, HasMade};
 
 use crate::answers::{send_answer, try_send_answer};
 use crate::gate::Gate;
@@ -232,14 +235,19 @@ impl<T: Drop, R: Waits, A: Allocator + Copy> Sender<T, R, A> {
     }
 
     /// As `Receiver::blocked_senders`.
-    pub fn blocked_senders(&self) -> usize {
-        self.shared.lock().blocked_len()
+    pub fn blocked_senders(&self) -> usize
+        ensures counted { HasCounted T A (λ opening log. length (blocked opening log)) result }
+    {
+        self.shared.blocked_len()
     }
 
     /// How many receives wait, and weren't woken or handed a message: calls, polled futures and
-    /// streams, and arms of selections. Doesn't allocate.
-    pub fn waiting_receivers(&self) -> usize {
-        self.shared.lock().waiting_len()
+    /// streams, and arms of selections.
+    pub fn waiting_receivers(&self) -> usize
+        ensures counted { HasCounted T A (λ opening log. waiting_count (entries opening log))
+            result }
+    {
+        self.shared.waiting_len()
     }
 }
 

@@ -34,7 +34,7 @@ pub struct Parker {
 }
 
 impl Parker {
-    /// A parker without a wake. A wait checks so often for one before it sleeps. Doesn't allocate.
+    /// A parker without a wake. A wait checks so often for one before it sleeps.
     /// ```
     /// let parker = Parker::new(0);
     /// parker.fire(&rt);

@@ -21,5 +21,5 @@ IsAfter timeout Reached = Unit {0}
 -- the clock can show a time that is before the deadline
 abbrev pub CanBeAhead : Deadline → Type 0
 CanBeAhead Never = Unit {0}
-CanBeAhead (At time) = (now : ℕ) × (now < instant_nanos time)
+CanBeAhead (At time) = (now : ℕ) × FitsClock now × (now < instant_nanos time)
 CanBeAhead Reached = ⊥

@@ -63,8 +63,8 @@ impl Deadline {
 
 /// The time to the deadline; `None` once it is reached, or if the clock can't be read.
 pub fn left_until<R: Clock>(rt: &R, deadline: Instant) -> Option<Duration>
-    ensures left { IfSome result (λ left. (now : ℕ) × (now < instant_nanos deadline)
-        × (as_nanos left + now ≡ instant_nanos deadline)) }
+    ensures left { IfSome result (λ left. (now : ℕ) × FitsClock now
+        × (now < instant_nanos deadline) × (as_nanos left + now ≡ instant_nanos deadline)) }
 {
     left_from(Instant::now(rt), deadline)
 }

@@ -6,6 +6,7 @@ ghost use Rattle.futures.specs.Task.{Covers, Keeps};
 ghost use Rattle.flume_core.specs.declared.error.SendError.{SendError};
 ghost use Rattle.flume_calls.specs.declared.polled.send.PolledSend.TheVariants.{Finished, Parked};
 ghost use Rattle.flume.specs.ManySendCalls.{LeavesList, PollLeaves};
+ghost use Rattle.flume.specs.ManySendPolls.{PollsSends};
 ghost use Rattle.flume.specs.ReceivePolls.{HasPolledMany};
 
 use crate::shared::{Shared, SignalBell, Waits};
@@ -59,6 +60,7 @@ impl<T: Drop, R: Waits, A: Allocator + Copy> Shared<T, R, A> {
         cx: &mut Context<'_>,
         messages: VecDeque<T, A>,
     ) -> SendListPoll<T, A>
+        ensures made { PollsSends A call.old messages.items result.0.items call.new result.1 }
         ensures leaves { PollLeaves call.old messages.items result.0.items result.1 }
         ensures finished { (answer : Result (Unit {0}) (SendError T)) → result.1 ≡ Some answer
             → call.new ≡ Finished }
@@ -84,6 +86,7 @@ impl<T: Drop, R: Waits, A: Allocator + Copy> Shared<T, R, A> {
         messages: VecDeque<T, A>,
     ) -> SendListPoll<T, A>
         requires ended { call.old ≡ Finished }
+        ensures made { PollsSends A Finished messages.items result.0.items call.new result.1 }
         ensures leaves { LeavesList messages.items result.0.items result.1 }
         ensures finished { (answer : Result (Unit {0}) (SendError T)) → result.1 ≡ Some answer
             → call.new ≡ Finished }
@@ -91,6 +94,7 @@ impl<T: Drop, R: Waits, A: Allocator + Copy> Shared<T, R, A> {
         ensures registered { result.1 ≡ None → Covers cx.new (λ s. s ≡ task.now.source.id) }
         ensures kept { Keeps cx.old cx.new }
     {
+        locked.facts();
         match locked.make(SendMany { messages }, &mut SignalBell { rt: self.rt }) {
             Ok(()) => (VecDeque::new(self.alloc), Some(Ok(()))),
             Err(TrySendError::Full(rest)) => {

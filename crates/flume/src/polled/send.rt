@@ -7,6 +7,7 @@ ghost use Rattle.flume_calls.specs.declared.polled.send.PolledSend.TheVariants.{
 ghost use Rattle.flume.specs.CallSteps.{HasReplied};
 ghost use Rattle.flume.specs.OwnedEnds.{end_of};
 ghost use Rattle.flume.specs.ManySendCalls.{PollLeaves};
+ghost use Rattle.flume.specs.ManySendPolls.{PollsSends};
 ghost use Rattle.flume.specs.LockedPolls.{answer_of};
 ghost use Rattle.flume.specs.SendPolls.{HasPolledSend};
 
@@ -82,6 +83,8 @@ impl<'a, T: Drop, R: Waits, A: Allocator + Copy> SendFut<'a, T, R, A> {
         cx: &mut Context<'_>,
         messages: &mut VecDeque<T, A>,
     ) -> Option<Result<(), SendError<T>>>
+        ensures made { PollsSends A self.old.send messages.old.items messages.new.items
+            self.new.send result }
         ensures leaves { PollLeaves self.old.send messages.old.items messages.new.items result }
         ensures finished { (answer : Result (Unit {0}) (SendError T)) → result ≡ Some answer
             → self.new.send ≡ Finished }

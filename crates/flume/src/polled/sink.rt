@@ -7,6 +7,7 @@ ghost use Rattle.flume_calls.specs.declared.polled.send.PolledSend.TheVariants.{
 ghost use Rattle.flume.specs.CallSteps.{HasReplied};
 ghost use Rattle.flume.specs.OwnedEnds.{end_of};
 ghost use Rattle.flume.specs.ManySendCalls.{IsEndOf, PollLeaves};
+ghost use Rattle.flume.specs.ManySendPolls.{PollsSends};
 ghost use Rattle.flume.specs.LockedPolls.{answer_of};
 ghost use Rattle.flume.specs.SendPolls.{IsPollOfSend};
 
@@ -86,6 +87,8 @@ impl<'a, T: Drop, R: Waits, A: Allocator + Copy> SendSink<'a, T, R, A> {
         cx: &mut Context<'_>,
         messages: &mut VecDeque<T, A>,
     ) -> Poll<Result<(), SendError<T>>>
+        ensures made { PollsSends A self.old.future.send messages.old.items messages.new.items
+            self.new.future.send (answer_of result) }
         ensures all { result ≡ Poll.Ready (Ok tt) → messages.new.items ≡ [] }
         ensures rest { IsEndOf messages.old.items messages.new.items }
         ensures leaves { PollLeaves self.old.future.send messages.old.items messages.new.items

@@ -93,7 +93,10 @@ pub trait Arms<V, A: Allocator + Copy> {
 
     ghost has_completed: { Self → ℕ → Type 0 };
 
-    ghost turns: { Bool → Self → ℕ → ArmNext → Self → Type 0 };
+    ghost answers: { Self → ℕ → V → Type 0 };
+
+    // As in `SelectGate`.
+    ghost turns: { Bool → Self → ℕ → Self → ArmNext → Type 0 };
 
     ghost withdraws: { Self → ℕ → Self → Type 0 };
 
@@ -106,7 +109,7 @@ pub trait Arms<V, A: Allocator + Copy> {
 
     /// The turn of the arm with this number, if there is one.
     fn turn(&mut self, arm: usize, parker: Option<&Arc<Parker, A>>) -> ArmNext
-        ensures does { turns (is_some parker.entry) self.old arm result self.new }
+        ensures does { turns (is_some parker.entry) self.old arm self.new result }
         ensures completed { result ≡ ArmNext.Completed → has_completed self.new arm }
         ensures mappers { mappers self.new ≡ mappers self.old };
 
@@ -121,6 +124,7 @@ pub trait Arms<V, A: Allocator + Copy> {
     fn value(self, arm: usize) -> Option<V>
         requires can_map { can_map (mappers self) }
         ensures completed { has_completed self arm ↔ IsSome result }
+        ensures answers { IfSome result (answers self arm) }
         ensures maps { IfSome result (maps (mappers self) arm) };
 }
 
@@ -163,7 +167,9 @@ impl<V, A: Allocator + Copy> Arms<V, A> for () {
 
     ghost has_completed = { λ _ _. ⊥ };
 
-    ghost turns = { λ _ old _ next new. (next ≡ NoMemory) × (new ≡ old) };
+    ghost answers = { λ _ _ _. ⊥ };
+
+    ghost turns = { λ _ old _ new next. (next ≡ NoMemory) × (new ≡ old) };
 
     ghost withdraws = { λ old _ new. new ≡ old };
 
@@ -204,9 +210,13 @@ impl<V, A: Allocator + Copy, L: Arms<V, A> + Drop, C: Arm<V, A> + Drop> Arms<V, 
         ByNumber (L.count (L.mappers arms.0)) (L.has_completed arms.0)
         (C.has_completed arms.1) };
 
-    ghost turns = { λ parks old arm next new.
+    ghost answers = { λ arms arm value.
+        ByNumber (L.count (L.mappers arms.0)) (λ n. L.answers arms.0 n value)
+        (C.answers arms.1 value) arm };
+
+    ghost turns = { λ parks old arm new next.
         ByNumber (L.count (L.mappers old.0))
-        (λ n. L.turns parks old.0 n next new.0 × (new.1 ≡ old.1))
+        (λ n. L.turns parks old.0 n new.0 next × (new.1 ≡ old.1))
         (C.turns parks old.1 next new.1 × (new.0 ≡ old.0)) arm };
 
     ghost withdraws = { λ old arm new.

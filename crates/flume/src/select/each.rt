@@ -46,9 +46,14 @@ where
         ByPlace (L.count (L.mappers list.before)) (L.has_completed list.before)
         (HoldsAt C.has_completed list.arms.items) };
 
-    ghost turns = { λ parks old arm next new.
+    ghost answers = { λ list arm value.
+        ByPlace (L.count (L.mappers list.before)) (λ n. L.answers list.before n value)
+        (λ place. HoldsAt (λ listed. C.answers listed list.mapper place value)
+        list.arms.items place) arm };
+
+    ghost turns = { λ parks old arm new next.
         ByPlace (L.count (L.mappers old.before))
-        (λ n. L.turns parks old.before n next new.before × (new.arms ≡ old.arms))
+        (λ n. L.turns parks old.before n new.before next × (new.arms ≡ old.arms))
         (λ place. (new.before ≡ old.before) × ChangesAt (λ a b. C.turns parks a next b)
         (next ≡ NoMemory) old.arms.items place new.arms.items) arm };
 

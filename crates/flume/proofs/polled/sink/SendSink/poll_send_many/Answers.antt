@@ -1,6 +1,7 @@
 -- What one more poll leaves, and that the last of the list are left.
 use Rattle.std.proofs.Common.{◌≡◌, Some, Ok, ◌∙◌, rules}
 use Rattle.flume.proofs.ManySendLemmas.{poll_end, finished_poll_leaves, sent_poll_leaves, next_leaves}
+use Rattle.flume.proofs.ManySendPollLemmas.{polls_go_on}
 use Rattle.flume.proofs.polled.sink.SendSink.poll_send_many.Goals as goal
 
 pub returns-in-Some-clause-rest : goal.returns-in-Some-clause-rest
@@ -21,6 +22,7 @@ loop-answer-preserved g c =
     let leaves = finished_poll_leaves c.loop-answer.self.future.send now next result over
     c.poll_sends-answer-in-loop-answer.ensures.leaves in
     record {
+      made = polls_go_on c.loop-answer.invariant.made ok over (rw over at c.poll_sends-answer-in-loop-answer.ensures.made);
       leaves = sent_poll_leaves send all next result
           (next_leaves all now next result (poll_end _ _ _ _ c.loop-answer.invariant.leaves) leaves);
       finished = c.poll_sends-answer-in-loop-answer.ensures.finished;
