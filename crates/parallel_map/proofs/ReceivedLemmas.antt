@@ -11,10 +11,11 @@ use Rattle.std.proofs.lemmas.Bool.{eq-eqb, eqb-false}
 use Rattle.std.proofs.lemmas.List.{map-append, append_assoc, append-nil}
 use Rattle.std.proofs.lemmas.List.Elements.{All-nil, All-push, All-head, All-tail}
 use Rattle.std.proofs.lemmas.List.Sums.{sum_by_push, sum_by-append, sum_by-cons}
-use Rattle.std.proofs.lemmas.Option.{slice_get_past, slice_get-get_or}
+use Rattle.std.proofs.lemmas.Option.{slice_get_past, slice_get-get_or, slice_get_within}
 use Rattle.parallel_map.specs.declared.error.WorkError.{WorkError}
 use Rattle.parallel_map.specs.declared.error.WorkError.TheVariants.{NoMemory}
-use Rattle.parallel_map.specs.RightAnswers.{IsTo, times, AreRight, AreComplete, Brings, OutOfMemory, IsUnknown, IsDoubled, IsMissing}
+use Rattle.parallel_map.specs.RightAnswers.{IsTo, times, AreRight, AreComplete, CanBring}
+use Rattle.parallel_map.specs.RightAnswers.{Brings, OutOfMemory, IsUnknown, IsDoubled, IsMissing}
 use Rattle.parallel_map.specs.SlotValues.{held, held_in, Places, IsRefused, NoJob, NotEmpty, Lacks, NoRoom, FirstEmpty}
 
 module _ {X : Type 0} where
@@ -123,6 +124,13 @@ module _ {I R J : Type 0} (steps : I → Option R → I → Type 0) (at : R → 
       → map at all ≡ map at before ++ at last ∷ map at later
   seam all before later last is =
       ap (map at) (is ∙ append_assoc before (last ∷ []) later) ∙ map-append at before (last ∷ later)
+
+  -- what an iterator's answers bring is an error that some answers can bring
+  pub can_bring : (jobs : List J) (answers : I) (error : WorkError) → Brings steps at jobs answers error → CanBring jobs error
+  can_bring jobs answers _ OutOfMemory = tt
+  can_bring jobs answers _ (IsUnknown before last rest yields rights unknown) = ((at last).1, unknown)
+  can_bring jobs answers _ (IsDoubled before last rest yields rights is some) = slice_get_within jobs (at last).0 (at last).1 is
+  can_bring jobs answers _ (IsMissing came number drains rights within none lower) = within
 
   -- if there is one right answer for each job, only memory may be needed
   pub only_no_memory : (jobs : List J) (answers : I) (error : WorkError) (all : List R) → Brings steps at jobs answers error

@@ -4,8 +4,8 @@ use Rattle.std.specs.Prelude.{Option, count_by}
 use Rattle.std.specs.List.{slice_get}
 use Rattle.std.specs.Iterator.{Yields, Drains}
 use Rattle.parallel_map.specs.declared.error.WorkError.{WorkError}
-use Rattle.parallel_map.specs.declared.error.WorkError.TheVariants.{NoMemory, Missing, Doubled}
-use Rattle.parallel_map.specs.declared.error.WorkError.TheVariants.{Unknown}
+use Rattle.parallel_map.specs.declared.error.WorkError.TheVariants.{NoMemory, NoThread, Missing}
+use Rattle.parallel_map.specs.declared.error.WorkError.TheVariants.{Doubled, Unknown}
 
 module _ {J : Type 0} where
   -- the list has this job under this number
@@ -25,6 +25,14 @@ module _ {J : Type 0} where
   pub record AreComplete (jobs : List J) (some : List (ℕ × J)) : Type 0 where
     pub right : AreRight jobs some
     pub each : (number : ℕ) → number < length jobs → times number some ≡ 1
+
+  -- an error that some answers to these jobs can bring
+  abbrev pub CanBring : List J → WorkError → Type 0
+  CanBring jobs NoMemory = Unit {0}
+  CanBring jobs NoThread = ⊥
+  CanBring jobs (Missing number) = number < length jobs
+  CanBring jobs (Doubled number) = number < length jobs
+  CanBring jobs (Unknown number) = (job : J) × (IsTo jobs (number, job) → ⊥)
 
 module _ {I R J : Type 0} (steps : I → Option R → I → Type 0) (at : R → ℕ × J) where
   -- the error that an iterator's answers bring

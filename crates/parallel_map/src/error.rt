@@ -16,7 +16,7 @@ use std::{fmt, io};
 pub enum WorkError {
     /// Out of memory.
     NoMemory,
-    /// No thread could be started.
+    /// A thread couldn't be started.
     NoThread,
     /// No answer has this number.
     Missing(usize),
@@ -58,6 +58,11 @@ impl From<WorkError> for io::Error {
 }
 
 impl From<NoMemory> for WorkError {
+    ghost use Rattle.std.specs.Prelude.{◌≡◌};
+    ghost use Rattle.parallel_map.specs.declared.error.WorkError.TheVariants.{NoMemory as OutOfMemory};
+
+    ghost from_gives = { λ _ e. e ≡ OutOfMemory };
+
     fn from(_refused: NoMemory) -> WorkError {
         WorkError::NoMemory
     }
@@ -86,6 +91,11 @@ impl<T: Drop> From<AllocFailed<T>> for WorkError {
 }
 
 impl<F: Drop> From<SpawnError<F>> for WorkError {
+    ghost use Rattle.std.specs.Prelude.{◌≡◌};
+    ghost use Rattle.parallel_map.specs.declared.error.WorkError.TheVariants.{NoThread};
+
+    ghost from_gives = { λ _ e. e ≡ NoThread };
+
     fn from(_refused: SpawnError<F>) -> WorkError {
         WorkError::NoThread
     }

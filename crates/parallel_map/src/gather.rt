@@ -1,6 +1,7 @@
 //! What is made of the answers to jobs.
-ghost use Rattle.std.specs.Prelude.{◌≡◌, List, IfOk, map};
+ghost use Rattle.std.specs.Prelude.{◌≡◌, List, IfOk, IfErr, map};
 ghost use Rattle.std.specs.Iterator.{IsFinite};
+ghost use Rattle.parallel_map.specs.RightAnswers.{CanBring};
 ghost use Rattle.parallel_map.specs.TruePlaces.{IsFound};
 
 use crate::answer::Answer;
@@ -23,7 +24,8 @@ pub(crate) trait Gather<W: Work> {
     ) -> Result<Self::Result, WorkError>
         requires can { I.can_next answers }
         requires ends { IsFinite (I.remaining answers) }
-        ensures right { IfOk result (is_right jobs.now) };
+        ensures right { IfOk result (is_right jobs.now) }
+        ensures error { IfErr result (CanBring jobs.now) };
 }
 
 pub(crate) struct Values;

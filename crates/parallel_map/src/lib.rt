@@ -8,7 +8,7 @@
 //! No contract says which message a receive gives, since other threads decide that. So the type of
 //! an answer says that its value is the work of its job, and the receiver compares its job with the
 //! list. A channel that lost, doubled or mixed up messages could bring an error, and never a wrong
-//! `Ok`. What isn't proved: that the call ends, and that it answers `Ok`.
+//! `Ok`. What isn't proved: that the call ends, and that it answers `Ok`, unless the list is empty.
 //!
 //! If your threads talk in another way, send an `Answer`, or a type like it: a struct with the
 //! question and the result, and a ghost field that ties them together. `answers::collect` and

@@ -1,5 +1,6 @@
 //! The threads that do the jobs.
-ghost use Rattle.std.specs.Prelude.{IfOk};
+ghost use Rattle.std.specs.Prelude.{◌≢◌, IfOk, IfErr, Err};
+ghost use Rattle.parallel_map.specs.RightAnswers.{CanBring};
 
 use crate::answer::Answer;
 use crate::error::WorkError;
@@ -27,12 +28,15 @@ where
     W::Job: Send + Sync,
     W::Value: Send,
     ensures right { IfOk result (G.is_right jobs.now) }
+    ensures error { result ≢ Err WorkError.NoThread → IfErr result (CanBring jobs.now) }
 {
     thread::scope(
         thread::scope_env(),
         &rt,
         |scope| -> Result<G::Result, WorkError>
             ensures right { IfOk result (G.is_right jobs.entry.now) }
+            ensures error { result ≢ Err WorkError.NoThread
+                → IfErr result (CanBring jobs.entry.now) }
         {
             let (give, to_do) = flume::on(rt).bounded(CAPACITY)?;
             let (done, answers) = flume::on(rt).bounded(CAPACITY)?;
@@ -85,6 +89,7 @@ fn gather_and_join<W: Work, R: Runtime, G: Gather<W>>(
     gather: &G,
 ) -> Result<G::Result, WorkError>
     ensures right { IfOk result (G.is_right jobs.now) }
+    ensures error { IfErr result (CanBring jobs.now) }
 {
     let mut answers = answers.into_iter();
     let found = gather.gather(rt.alloc(), jobs, answers.by_ref());

@@ -1,11 +1,8 @@
-//! The errors: their texts, kinds and conversions.
-use flume::error::NoMemory;
+//! The errors: their texts and kinds.
 use parallel_map::WorkError;
-use std::alloc::{AllocError, AllocFailed};
 use std::io;
 use std::io::ErrorKind;
 use std::test::Fail;
-use std::thread::SpawnError;
 
 const TEXTS: &[(WorkError, &str)] = &[
     (WorkError::NoMemory, "out of memory"),
@@ -32,14 +29,4 @@ fn each_error_has_its_text_and_kind(rt: HostRuntime) -> Result<(), Fail> {
     let cut = format!(in rt.alloc(); "{:5.3}.", WorkError::NoMemory)?;
     assert_eq!(rt; cut.as_str(), "out  .");
     Ok(())
-}
-
-#[test]
-fn errors_of_memory_and_threads_are_converted(rt: HostRuntime) {
-    assert_eq!(rt; WorkError::from(NoMemory), WorkError::NoMemory);
-    assert_eq!(rt; WorkError::from(AllocError), WorkError::NoMemory);
-    let failed = AllocFailed { value: 7u64 };
-    assert_eq!(rt; WorkError::from(failed), WorkError::NoMemory);
-    let no_thread = WorkError::from(SpawnError { value: 7u64 });
-    assert_eq!(rt; no_thread, WorkError::NoThread);
 }
