@@ -1,4 +1,4 @@
-//! An audited channel that threads share.
+//! An audited channel that threads share. The module gives all other types of an audit again.
 ghost use Rattle.std.specs.Prelude.{◌≡◌, ◌<◌, ◌↔◌, ℕ, [], reverse, vec_len, All, IfOk, OnErr};
 ghost use Rattle.flume_model.specs.Log.{opens};
 ghost use Rattle.flume_model.specs.Conserved.{Conserved};
@@ -6,10 +6,12 @@ ghost use Rattle.flume_audit.specs.Recorded.{GainsReceipt, IsChannelOfHistory};
 ghost use Rattle.flume_audit.specs.Settled.{IsSettled, LeastDisagreement};
 ghost use Rattle.flume_audit.specs.Weights.{history_weight, lists_weight};
 
-use crate::book::Book;
-use crate::closed::Closed;
-use crate::seat::Seat;
-use crate::weigh::{Ones, Weigh};
+pub use crate::book::Book;
+pub use crate::closed::Closed;
+pub use crate::differs::differs;
+pub use crate::receipt::{Receipt, Receipts};
+pub use crate::seat::Seat;
+pub use crate::weigh::{Ones, Weigh};
 use flume_core::error::NoMemory;
 use flume_model::step::{Reply, Step};
 use std::alloc::{Allocator, Global};
@@ -56,7 +58,7 @@ impl<T: Copy, L: Ledger, R: Drop, W: Weigh<T, A>, A: Allocator + Copy> Audit<T, 
         Ok((audit, seated))
     }
 
-    /// Ends the audit as `Book::close` does. Takes no lock; doesn't allocate.
+    /// Ends the audit as `Book::close` does. Takes no lock.
     /// ```
     /// let (closed, book) = audit.close(seats);         // Settled, where all seats are there
     /// book.history();                                  // each step with its reply

@@ -135,7 +135,7 @@ impl<T: Copy, L: Ledger, W: Weigh<T, A>, A: Allocator + Copy> Book<T, L, W, A> {
         Ok(answer)
     }
 
-    /// Compares the history with the receipts of these seats, by `differs`. Doesn't allocate.
+    /// Compares the history with the receipts of these seats, by `differs`.
     /// ```
     /// book.close(seats);                               // Settled, where all seats are there
     /// ```

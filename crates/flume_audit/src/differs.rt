@@ -7,28 +7,27 @@ ghost use Rattle.flume_audit.specs.Settled.{has_one_receipt, receipts_at, step_a
 ghost use Rattle.flume_audit.specs.Only.{only};
 ghost use Rattle.flume_audit.specs.Misplaced.{IsLeast, Misplaced, lesser};
 
-use crate::receipt::Receipt;
+use crate::receipt::{Receipt, Receipts};
 use flume_model::step::{Reply, Step};
 use std::alloc::Allocator;
-use std::convert::AsSlice;
 
 /// The least number at which they disagree: not exactly one receipt has it and equals the entry, or
-/// one that has it isn't above the one before, or one is past this end. Doesn't allocate.
+/// one that has it isn't above the one before, or one is past this end.
 /// ```
 /// let history: [(Step<u64>, Reply<u64>); 1] = [(Step::TrySend(1), Reply::Full(1))];
 /// let receipts: Vec<Receipt<u64>> = Vec::new(alloc);
 /// differs(&history, &[receipts]);    // Some(0): no receipt has its number
 /// ```
-pub fn differs<T: Eq, A: Allocator, H: AsSlice<Receipt<T, A>>>(
+pub fn differs<T: Eq, A: Allocator, H: Receipts<T, A>>(
     history: &[(Step<T>, Reply<T, A>)],
     seats: &[H],
 ) -> Option<usize>
     ensures some { IfSome result (λ number. LeastDisagreement
         ⟦<(Step<T>, Reply<T, A>) as PartialEq>⟧.eq
-        history.now (map H.items seats.now) number) }
+        history.now (map H.receipts seats.now) number) }
     ensures none { IfNone result ((number : ℕ)
         → DisagreeAt ⟦<(Step<T>, Reply<T, A>) as PartialEq>⟧.eq
-        history.now (map H.items seats.now) number → ⊥) }
+        history.now (map H.receipts seats.now) number → ⊥) }
 {
     let end = first_misplaced(history.len(), seats);
     for number in 0..end.unwrap_or(history.len()) {
@@ -39,16 +38,13 @@ pub fn differs<T: Eq, A: Allocator, H: AsSlice<Receipt<T, A>>>(
     end
 }
 
-fn first_misplaced<T, A: Allocator, H: AsSlice<Receipt<T, A>>>(
-    length: usize,
-    seats: &[H],
-) -> Option<usize>
-    ensures least { IsLeast (λ number. Any (Misplaced length number) (map H.items seats.now))
+fn first_misplaced<T, A: Allocator, H: Receipts<T, A>>(length: usize, seats: &[H]) -> Option<usize>
+    ensures least { IsLeast (λ number. Any (Misplaced length number) (map H.receipts seats.now))
         result }
 {
     let mut least = None;
     for seat in seats {
-        least = lesser(least, misplaced_in(length, seat.as_slice()));
+        least = lesser(least, misplaced_in(length, seat.list()));
     }
     least
 }
@@ -94,15 +90,15 @@ fn lesser(first: Option<usize>, second: Option<usize>) -> Option<usize>
     }
 }
 
-fn has_receipt_at<T: Eq, A: Allocator, H: AsSlice<Receipt<T, A>>>(
+fn has_receipt_at<T: Eq, A: Allocator, H: Receipts<T, A>>(
     entry: &(Step<T>, Reply<T, A>),
     number: usize,
     seats: &[H],
 ) -> bool
-    requires before { (misplaced : ℕ) → Any (NotAbove misplaced) (map H.items seats.now)
+    requires before { (misplaced : ℕ) → Any (NotAbove misplaced) (map H.receipts seats.now)
         → number < misplaced }
     ensures sole { result ≡ has_one_receipt ⟦<(Step<T>, Reply<T, A>) as PartialEq>⟧.eq entry.now
-        (receipts_at number (map H.items seats.now)) }
+        (receipts_at number (map H.receipts seats.now)) }
 {
     match sole_receipt_at(number, seats) {
         Some(receipt) => is_receipt_of(receipt, entry),
@@ -110,18 +106,18 @@ fn has_receipt_at<T: Eq, A: Allocator, H: AsSlice<Receipt<T, A>>>(
     }
 }
 
-fn sole_receipt_at<T, A: Allocator, H: AsSlice<Receipt<T, A>>>(
+fn sole_receipt_at<T, A: Allocator, H: Receipts<T, A>>(
     number: usize,
     seats: &[H],
 ) -> Option<&Receipt<T, A>>
-    requires before { (misplaced : ℕ) → Any (NotAbove misplaced) (map H.items seats.now)
+    requires before { (misplaced : ℕ) → Any (NotAbove misplaced) (map H.receipts seats.now)
         → number < misplaced }
     ensures only { option_map (λ receipt. receipt.now) result
-        ≡ only (receipts_at number (map H.items seats.now)) }
+        ≡ only (receipts_at number (map H.receipts seats.now)) }
 {
     let mut only: Option<&Receipt<T, A>> = None;
     for seat in seats {
-        if let Some(receipt) = receipt_at(number, seat.as_slice()) {
+        if let Some(receipt) = receipt_at(number, seat.list()) {
             if only.is_some() {
                 return None;
             }

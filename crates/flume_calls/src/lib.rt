@@ -7,6 +7,8 @@
 //! locked.make(FirstSend { message: 8 }, &mut bell);      // NeedSignal(8): it is full
 //! locked.make(FirstReceive, &mut bell);                  // Done(Ok(7))
 //! ```
+//! The loops of `gates` may wait; that they return isn't proved. If a comment says *doesn't
+//! allocate*, it is as in `flume_core`, of the step that the turn makes.
 #![tactic(auto)]
 
 pub mod calls;

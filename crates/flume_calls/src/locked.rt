@@ -102,7 +102,7 @@ impl<T: Drop, S: Drop, A: Allocator + Copy> Locked<T, S, A> {
         self.chan.blocked_len() == 0 && self.chan.waiting_len() == 0
     }
 
-    /// Makes a turn of at most one step, and rings no bell: no other call can go on by it.
+    /// Makes a turn of at most one step, and rings no bell: no ticket is due then (`IsAtRest`).
     /// ```
     /// let mut locked: Locked<u64, u64, Global> = Locked::new(rt.alloc(), None);
     /// locked.make_without_bell(FirstSend { message: 7 });            // Done(Ok(()))

@@ -24,7 +24,7 @@ front_nil [] ys e = refl
 front_nil (x ∷ xs) ys e = cc
 
 module _ {T A S : Type 0} where
-  -- the queue is the kept offers from the hand-outs on, up to the queue_len
+  -- the queue is the kept offers from the hand-outs on, as many as are queued
   queue_is_front : (o : Opening) (log : Log T A) (s : State T S) → Represents o log s
       → s.queue ≡ messages (take (queue_len o log) (drop (hand_outs log) (kept log)))
   queue_is_front o log s h = go (is_over log) refl

@@ -109,7 +109,7 @@ module _ {T A S : Type 0} where
   abbrev pub queued : {o : Opening} {log : Log T A} {s : State T S} → Represents o log s → List (Offer T)
   queued {o} {log} {s} h = take (queue_len o log) (line log)
 
-  -- as many offers are queued as the queue_len says
+  -- `queue_len` counts the queued offers
   many_queued : {o : Opening} {log : Log T A} {s : State T S} (h : Represents o log s) → length (queued h) ≡ queue_len o log
   many_queued {o} {log} {s} h = length-take-le (queue_len o log) (line log) (shape_of o log h.run).within
 
@@ -117,7 +117,7 @@ module _ {T A S : Type 0} where
   pub queued_length : {o : Opening} {log : Log T A} {s : State T S} (h : Represents o log s) → length (queued h) ≡ length s.queue
   queued_length {o} {log} {s} h = sym (ap length h.queue_is ∙ length-map (queued h) (λ offer. offer.message))
 
-  -- and as many messages as the queue_len says
+  -- and the queued messages
   pub queue_len_is : {o : Opening} {log : Log T A} {s : State T S} → Represents o log s → length s.queue ≡ queue_len o log
   queue_len_is {o} {log} {s} h = sym (queued_length h) ∙ many_queued h
 

@@ -17,15 +17,16 @@ mod receive;
 mod send;
 mod waiting;
 
-use flume_model::step::{Reply, Step};
+pub use flume_model::step::{Kind, Reply, Step};
 use flume_state::entries::Entries;
 use flume_state::line::Line;
 use std::alloc::{Allocator, Global};
 use std::marker::Model;
 
 /// A channel without its lock. `S` is the signal that a blocked send or a parked receiver leaves.
-/// `Reply` says what each reply means, and a refusal (`IsRefusal`) changes nothing. `NoMemory` also
-/// comes if a `flume_chain::chain::Chain` of messages, live sends or parked receivers is full.
+/// `Reply` says what each reply means. A refusal (`IsRefusal`) changes nothing, except that a poll
+/// that answers `Ended` spends its ticket. `NoMemory` also comes if a `flume_chain::chain::Chain`
+/// of messages, live sends or parked receivers is full.
 #[derive(Drop)]
 pub struct Chan<T, S, A: Allocator = Global> {
     capacity: Option<usize>,

@@ -10,9 +10,11 @@ abbrev pub error_text : RecordingError → List ℕ
 error_text recording.NoMemory = codes "out of memory"
 error_text recording.Incomplete = codes "a recorder isn't complete: memory was refused"
 error_text recording.Missing = codes "a recorder is missing"
+error_text recording.Stranger = codes "a recorder is another recording's"
 
 -- its kind
 abbrev pub kind_of : RecordingError → ErrorKind
 kind_of recording.NoMemory = kind.OutOfMemory
 kind_of recording.Incomplete = kind.OutOfMemory
 kind_of recording.Missing = kind.InvalidInput
+kind_of recording.Stranger = kind.InvalidInput

@@ -2,12 +2,14 @@
 
 use std::sync::atomic::{AtomicU64, Ordering};
 
-/// How many stamps were given, threads numbered, and recorders made.
+/// How many stamps were given, threads numbered, and recorders made. `marks` is 0, but while a
+/// recorder shows whose it is.
 #[derive(Drop)]
 pub(crate) struct Counters {
     stamps: AtomicU64,
     threads: AtomicU64,
     recorders: AtomicU64,
+    marks: AtomicU64,
 }
 
 impl Counters {
@@ -16,6 +18,7 @@ impl Counters {
             stamps: AtomicU64::new(0),
             threads: AtomicU64::new(0),
             recorders: AtomicU64::new(0),
+            marks: AtomicU64::new(0),
         }
     }
 
@@ -34,5 +37,13 @@ impl Counters {
 
     pub(crate) fn recorder_count(&self) -> u64 {
         self.recorders.load(Ordering::SeqCst)
+    }
+
+    // A mark that is set through the other handle is seen here, since no address can be compared.
+    pub(crate) fn is_same(&self, other: &Counters) -> bool {
+        other.marks.fetch_add(1, Ordering::SeqCst);
+        let same = self.marks.load(Ordering::SeqCst) > 0;
+        other.marks.fetch_sub(1, Ordering::SeqCst);
+        same
     }
 }

@@ -18,6 +18,8 @@ pub enum RecordingError {
     Incomplete,
     /// A recorder is missing.
     Missing,
+    /// A recorder is another recording's.
+    Stranger,
 }
 
 impl RecordingError {
@@ -28,6 +30,7 @@ impl RecordingError {
             RecordingError::NoMemory => "out of memory",
             RecordingError::Incomplete => "a recorder isn't complete: memory was refused",
             RecordingError::Missing => "a recorder is missing",
+            RecordingError::Stranger => "a recorder is another recording's",
         }
     }
 }
@@ -57,7 +60,7 @@ impl From<RecordingError> for io::Error {
 
     fn from(e: RecordingError) -> io::Error {
         let kind = match e {
-            RecordingError::Missing => ErrorKind::InvalidInput,
+            RecordingError::Missing | RecordingError::Stranger => ErrorKind::InvalidInput,
             RecordingError::NoMemory | RecordingError::Incomplete => ErrorKind::OutOfMemory,
         };
         io::Error::new(kind, e.text())

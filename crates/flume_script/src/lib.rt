@@ -27,15 +27,18 @@ pub struct ScriptOutput<A: Allocator = Global> {
     pub status: u8,
 }
 
+/// What [`run_script`] returns.
+pub type Script<A = Global> = ScriptOutput<A>;
+
 /// Runs a script on a new channel: each reply is a line of the text, and the status is 0. If a line
 /// is wrong, no step is done: the text names the first wrong line, and the status is 2. `NoMemory`:
-/// an allocation failed. Linear in the length of the input.
+/// an allocation failed.
 /// ```
-/// let script = run_script(alloc, b"unbounded\ntry_send 42\ntry_recv\n")?;
+/// let script: Script = run_script(alloc, b"unbounded\ntry_send 42\ntry_recv\n")?;
 /// script.text;                       // "sent\ngot 42\n"
 /// script.status;                     // 0
 /// ```
-pub fn run_script<A: Allocator + Copy>(alloc: A, input: &[u8]) -> Result<ScriptOutput<A>, NoMemory>
+pub fn run_script<A: Allocator + Copy>(alloc: A, input: &[u8]) -> Result<Script<A>, NoMemory>
     ensures prints { IfOk result (λ output. Prints A input.now output.text.items output.status) }
 {
     match read_script(alloc, input)? {

@@ -167,7 +167,7 @@ fn read_lines<'s, L: Line<'s> + Drop, A: Allocator + Copy>(
     Ok(Ok(steps))
 }
 
-/// Reads a script up to its first wrong line. `NoMemory`: an allocation failed. Linear.
+/// Reads a script up to its first wrong line. `NoMemory`: an allocation failed.
 /// ```
 /// read_script::<Step<u64>, _>(alloc, b"bounded 7\nlen\n")?;
 /// // Right { capacity: Some(7), steps: [Len] }

@@ -149,7 +149,7 @@ pub fn write_reply<A: Allocator>(
     })
 }
 
-/// The texts of the replies, each on a line. `NoMemory`: an allocation failed. Linear.
+/// The texts of the replies, each on a line. `NoMemory`: an allocation failed.
 /// ```
 /// write_replies(alloc, &[Reply::Got(12), Reply::Empty])?;    // "got 12\nempty\n"
 /// ```

@@ -108,7 +108,7 @@ impl<T: Drop, A: Allocator + Copy> SendGate<T> for LocalGate<T, A> {
         self.locked.make(FirstSend { message }, &mut self.bell)
     }
 
-    fn make_waiter(&mut self) -> Option<((), u64)> {
+    fn arm(&mut self) -> Option<((), u64)> {
         Some(((), 11))
     }
 
@@ -160,7 +160,7 @@ impl<T: Drop, A: Allocator + Copy> RecvGate<T> for LocalGate<T, A> {
         self.locked.make(FirstReceive, &mut self.bell)
     }
 
-    fn make_waiter(&mut self) -> Option<((), u64)> {
+    fn arm(&mut self) -> Option<((), u64)> {
         Some(((), 11))
     }
 

@@ -1,4 +1,4 @@
-//! Recorders that are refused memory, and recorders that are missing.
+//! Recorders that are refused memory, that are missing, or that are another recording's.
 use crate::fixtures::unwrap;
 use flume::error::TryRecvError;
 use flume_recorder::{Recorder, Recording, RecordingError};
@@ -75,4 +75,15 @@ fn a_missing_recorder_is_noticed(rt: HostRuntime) {
     drop(other);
     let fault = fault_of(&rt, &heap, (recording, own));
     assert_eq!(rt; fault, Some(RecordingError::Missing));
+}
+
+#[test]
+fn recorders_of_two_recordings_that_were_swapped_are_noticed(rt: HostRuntime) {
+    let heap = Counting::new(rt.alloc());
+    let (recording, own) = new_recording(&rt, &heap);
+    let (other_recording, other) = new_recording(&rt, &heap);
+    let fault = fault_of(&rt, &heap, (recording, other));
+    assert_eq!(rt; fault, Some(RecordingError::Stranger));
+    let fault = fault_of(&rt, &heap, (other_recording, own));
+    assert_eq!(rt; fault, Some(RecordingError::Stranger));
 }

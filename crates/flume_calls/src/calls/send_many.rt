@@ -11,7 +11,7 @@ use std::alloc::Allocator;
 use std::collections::VecDeque;
 
 /// Offers these messages in order by `Chan::try_send`, up to the first that is refused. The error
-/// says why, and has that one and the rest, in order. Allocates only in the channel.
+/// says why, and has that one and the rest, in order. The messages before it stay sent.
 /// ```
 /// let messages = VecDeque::from_vec(vec![in alloc; 1, 2, 3]?);
 /// let mut chan: Chan<u64, u32> = Chan::new(alloc, Some(2));

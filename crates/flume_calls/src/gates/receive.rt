@@ -28,7 +28,7 @@ pub trait RecvGate<T> {
 
     ghost waits: { Self → Self → Bool → Type 0 };
 
-    // Holds from `make_waiter` on until the call has ended.
+    // Holds from `arm` on until the call has ended.
     ghost can_park: { Self → Type 0 };
 
     /// The first turn. `Done(Err(NoMemory))`: there is a message, but no memory to hand it out.
@@ -37,7 +37,7 @@ pub trait RecvGate<T> {
         ensures answers { IsFirstAnswer result };
 
     /// Makes the waiter and its signal. `None`: out of memory.
-    fn make_waiter(&mut self) -> Option<(Self::Waiter, Self::Signal)>
+    fn arm(&mut self) -> Option<(Self::Waiter, Self::Signal)>
         ensures does { makes self.old self.new (is_some result) }
         ensures ready { IfSome result (λ _. can_park self.new) };
 
@@ -111,7 +111,7 @@ pub fn waiting_receive<T: Drop, G: RecvGate<T>, R: Wait>(
         → IsNeverRefused G.parked_turn → result ≡ Err RecvTimeoutError.NoMemory
         → EndsUnparked G.first_turn G.makes G.parking_turn start gate.new }
 {
-    let Some((waiter, signal)) = gate.make_waiter() else {
+    let Some((waiter, signal)) = gate.arm() else {
         return Err(NoMemory);
     };
     match gate.park(signal) {

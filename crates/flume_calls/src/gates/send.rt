@@ -34,7 +34,7 @@ pub trait SendGate<T> {
         ensures answers { IsFirstAnswer message result };
 
     /// Makes the waiter and its signal. `None`: out of memory.
-    fn make_waiter(&mut self) -> Option<(Self::Waiter, Self::Signal)>
+    fn arm(&mut self) -> Option<(Self::Waiter, Self::Signal)>
         ensures does { makes self.old self.new (is_some result) };
 
     /// The turn that may park.
@@ -98,7 +98,7 @@ pub fn waiting_send<T, G: SendGate<T>, R: Wait>(
     ensures no_memory_holds { (back : T) → result ≡ Err (SendTimeoutError.NoMemory back)
         → back ≡ message }
 {
-    let Some((waiter, signal)) = gate.make_waiter() else {
+    let Some((waiter, signal)) = gate.arm() else {
         return Err(NoMemory(message));
     };
     match gate.park(message, signal) {

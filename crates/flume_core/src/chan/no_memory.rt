@@ -9,7 +9,7 @@ use flume_state::entries::ReceiverStatus;
 use std::alloc::Allocator;
 
 impl<T: Drop, S: Drop, A: Allocator + Copy> Chan<T, S, A> {
-    /// Whether `NoMemory` may answer the step now, even if no `Chan` answers so. Doesn't allocate.
+    /// Whether `NoMemory` may answer the step now, even if no `Chan` answers so.
     /// ```
     /// let mut chan: Chan<u64, u32> = Chan::new(alloc, Some(0));
     /// chan.no_memory_is_lawful(&Step::TryRecv);    // false

@@ -145,7 +145,7 @@ impl<T: Drop, S: Drop, A: Allocator + Copy> Chan<T, S, A> {
     }
 
     /// A ticket that is due, and isn't afterwards: its send was accepted, or is blocked in a closed
-    /// channel, or its receiver was woken or filled. Costs the same whatever is parked. No step.
+    /// channel, or its receiver was woken or filled. Searches nothing. No step.
     #[inline(always)]
     pub fn next_due(&mut self) -> Option<u64>
         ensures named { IfSome result (λ ticket. NamesDueTicket self.old self.new ticket) }

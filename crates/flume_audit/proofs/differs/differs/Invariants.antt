@@ -18,5 +18,5 @@ same_entry g one other =
 abbrev pub invariant-loop-number : goal.invariant-loop-number
 invariant-loop-number g l = record {
   agree : (lower : ℕ) → lower < l.number → AgreeAt (same_entry g) l.history
-      (map g.H.AsSlice.items l.seats) lower;
+      (map g.H.Receipts.receipts l.seats) lower;
 }

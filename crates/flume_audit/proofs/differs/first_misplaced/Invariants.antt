@@ -8,7 +8,7 @@ abbrev pub invariant-loop-seat : goal.invariant-loop-seat
 invariant-loop-seat g l = record {
   least : (later : Option ℕ)
       → IsLeast (λ number. Any (Misplaced l.length number)
-      (map g.H.AsSlice.items (drop l.seat-index l.seats))) later
-      → IsLeast (λ number. Any (Misplaced l.length number) (map g.H.AsSlice.items l.seats))
+      (map g.H.Receipts.receipts (drop l.seat-index l.seats))) later
+      → IsLeast (λ number. Any (Misplaced l.length number) (map g.H.Receipts.receipts l.seats))
       (lesser l.least later);
 }

@@ -7,7 +7,7 @@ use Rattle.flume_audit.proofs.differs.sole_receipt_at.Given as goal
 -- of what all lists tell, the only receipt is that of the one found and of the lists from here on
 abbrev pub invariant-loop-seat : goal.invariant-loop-seat
 invariant-loop-seat g l = record {
-  only : only (receipts_at l.number (map g.H.AsSlice.items l.seats))
+  only : only (receipts_at l.number (map g.H.Receipts.receipts l.seats))
       ≡ only_with (option_map (λ receipt. receipt.now) l.only)
-      (receipts_at l.number (map g.H.AsSlice.items (drop l.seat-index l.seats)));
+      (receipts_at l.number (map g.H.Receipts.receipts (drop l.seat-index l.seats)));
 }

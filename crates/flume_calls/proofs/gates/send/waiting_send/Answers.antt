@@ -8,9 +8,9 @@ returns-in_default-clause-run g c start first = NoWaiter first c.in_default.ensu
 
 pub returns-in-Done-clause-run : goal.returns-in-Done-clause-run
 returns-in-Done-clause-run g c start first =
-    AtPark {made = c.make_waiter.new.self} first c.in-Some.ensures.does c.in-Done.ensures.does
+    AtPark {made = c.arm.new.self} first c.in-Some.ensures.does c.in-Done.ensures.does
 
 pub returns-in-Park-clause-run : goal.returns-in-Park-clause-run
 returns-in-Park-clause-run g c start first =
-    Parked {made = c.make_waiter.new.self} {parked = c.park.new.self} first c.in-Some.ensures.does c.in-Park.ensures.does
+    Parked {made = c.arm.new.self} {parked = c.park.new.self} first c.in-Some.ensures.does c.in-Park.ensures.does
     c.parked_send.ensures.run
