@@ -1,7 +1,9 @@
-//! Tests of what executors poll, many calls at once. Single polled calls are in `end_scripts`, and
-//! with other threads in `thread_scripts`.
+//! Tests of what executors poll, many calls at once, and of calls of futures, sinks and streams.
+//! Most single polled calls are in `end_scripts`, and with other threads in `thread_scripts`.
 #![tactic(auto)]
 
+#[cfg(test)]
+mod asked;
 #[cfg(test)]
 mod fixtures;
 #[cfg(test)]
@@ -12,6 +14,8 @@ mod many;
 mod numbers;
 #[cfg(test)]
 mod order;
+#[cfg(test)]
+mod polls;
 #[cfg(test)]
 mod runtime;
 #[cfg(test)]

@@ -1,11 +1,13 @@
-//! Tests of selectors, and of the parker that a selector sleeps on. What scripts can say is in
-//! `end_scripts`, and with threads in `thread_scripts`.
+//! Tests of selectors, and of the parker that a selector sleeps on. Most of what scripts can say is
+//! in `end_scripts`, and with threads in `thread_scripts`.
 #![tactic(auto)]
 
 #[cfg(test)]
 mod clocks;
 #[cfg(test)]
 mod fixtures;
+#[cfg(test)]
+mod lists;
 #[cfg(test)]
 mod mappers;
 #[cfg(test)]

@@ -12,11 +12,21 @@ pub enum HowLong {
     Endless,
     Timeout(Duration),
     Deadline(Instant),
+    // Not at all: each arm is only tried, and if none can go on, the selection is late.
+    Tried,
 }
 
 fn without_end<V>(answer: Result<V, NoMemory>) -> Result<V, SelectError> {
     match answer {
         Ok(value) => Ok(value),
+        Err(NoMemory) => Err(SelectError::NoMemory),
+    }
+}
+
+fn or_late<V>(answer: Result<Option<V>, NoMemory>) -> Result<V, SelectError> {
+    match answer {
+        Ok(Some(value)) => Ok(value),
+        Ok(None) => Err(SelectError::Timeout),
         Err(NoMemory) => Err(SelectError::NoMemory),
     }
 }
@@ -32,6 +42,7 @@ pub fn wait<V, L: AtLeastOneArm<V, A> + Drop, A: Allocator + Copy>(
         HowLong::Endless => without_end(selector.wait()),
         HowLong::Timeout(timeout) => selector.wait_timeout(timeout),
         HowLong::Deadline(deadline) => selector.wait_deadline(deadline),
+        HowLong::Tried => or_late(selector.try_wait()),
     }
 }
 
