@@ -1,0 +1,4 @@
+pub mod Owners
+pub mod Picks
+pub mod Interleavings
+pub mod Parties
