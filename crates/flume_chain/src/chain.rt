@@ -1,4 +1,4 @@
-//! Elements in order, each a value with a label. Taking one out costs the same wherever it is.
+//! Elements in order, each a value with a label. One is taken out without a search.
 ghost use Rattle.std.specs.Prelude.{◌≡◌, ◌<◌, ◌≤◌, ◌+◌, ◌++◌, ◌∷◌, ◌↔◌, [], Some, None, length, ℕ};
 ghost use Rattle.std.specs.Prelude.{IsOk, IfOk, IfErr, OnOk, OnErr, IfNone, OnSome, IsSome};
 ghost use Rattle.std.specs.Prelude.{true, false, option_copied};
@@ -17,7 +17,8 @@ use links::{Links, NIL};
 use std::alloc::Allocator;
 use std::marker::Model;
 
-/// Elements in order, each with a label and a place. Only `push_back` and `insert_before` allocate.
+/// Elements in order, each with a label and a place. No call but `push_back` and
+/// `insert_before` can be refused memory.
 #[derive(Drop)]
 pub struct Chain<L, E, A: Allocator> {
     links: Links<L, E, A>,
@@ -267,7 +268,7 @@ impl<L: Drop, E: Drop, A: Allocator> Chain<L, E, A> {
         Some(element)
     }
 
-    /// Drops all elements. Neither allocates nor gives memory back.
+    /// Drops all elements; what they took stays as room.
     pub fn clear(&mut self)
         ensures empty { self.new.items ≡ [] }
         ensures room { self.new.room ≡ self.old.room + length self.old.items }

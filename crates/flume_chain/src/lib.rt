@@ -1,4 +1,4 @@
-//! A list from which each element can be taken out in constant time, wherever it is. A *place* is a
+//! A list from which each element can be taken out without a search, wherever it is. A *place* is a
 //! number that names an element while it is in the list, of at most 4,294,967,295 elements.
 //! ```
 //! let mut chain = Chain::new(alloc);

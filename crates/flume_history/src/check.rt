@@ -21,7 +21,7 @@ pub enum Checked {
 
 /// Whether a correct channel of this capacity (`None`: unbounded) could have produced this history,
 /// the oldest step first. Messages are compared by their `Eq`. `NoMemory` is lawful if any channel
-/// might have run out at that step, also if a `Chan` never does. Linear, but for finding tickets.
+/// might have run out at that step, also if a `Chan` never does.
 /// ```
 /// let history = [
 ///     (Step::TrySend(5), Reply::Sent { filled: None }),

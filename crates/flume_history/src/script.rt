@@ -24,7 +24,7 @@ use reading::Pair;
 use std::alloc::Allocator;
 
 /// Whether a correct channel could have produced the history in a script with ` -> ` and a reply
-/// behind each step. `NoMemory`: an allocation failed. Linear, but for finding tickets.
+/// behind each step. `NoMemory`: an allocation failed.
 /// - If a line is wrong, the text and the status are `run_script`'s: all lines are read first.
 /// - If the lines are a history, the text is `correct`, and the status 0.
 /// - Else the text names the first line whose reply isn't lawful, this reply, and the lawful one:

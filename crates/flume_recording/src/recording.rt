@@ -61,8 +61,7 @@ fn unopened<'s, A: Allocator>() -> Recording<'s, A>
     }
 }
 
-/// Reads a recording up to its first wrong line, in time linear in its length, and for each line in
-/// the number of threads. `NoMemory`: an allocation failed.
+/// Reads a recording up to its first wrong line. `NoMemory`: an allocation failed.
 /// ```
 /// let right = read_recording(alloc, b"unbounded\na: len\na -> 0\n")?;
 /// matches!(right, Recording::Right { capacity: None, .. });               // true

@@ -1,4 +1,6 @@
-//! Reads a script from standard input and prints what the channel answers.
+//! Reads a script from standard input and prints what the channel answers. With `--states` among
+//! its arguments, it also prints the channel's states: no clause says what it prints then. It
+//! ignores any other argument.
 #![tactic(auto)]
 
 ghost use Rattle.std.specs.Prelude.{◌≡◌, false};

@@ -37,7 +37,7 @@ struct ParkedReceiver<T, S> {
     notice: Notice<S>,
 }
 
-/// The parked receivers, in order. Only `park` allocates.
+/// The parked receivers, in order. Only `park` can be refused memory.
 #[derive(Drop)]
 pub struct Entries<T, S, A: Allocator> {
     // First those that neither wait nor are due, then the due ones, then those that wait.

@@ -14,7 +14,8 @@ use crate::sends::Sends;
 use std::alloc::{AllocError, Allocator};
 use std::marker::Model;
 
-/// The messages and the live sends. Only `push_queued`, `block` and `drain_queued` allocate.
+/// The messages and the live sends. No call but `push_queued`, `block` and
+/// `drain_queued` can be refused memory.
 #[derive(Drop)]
 pub struct Line<T, S, A: Allocator> {
     // A blocked message and its send have each other's place.

@@ -15,7 +15,7 @@ use flume_chain::labelled::LabelledValue;
 use std::alloc::{AllocError, Allocator};
 use std::marker::Model;
 
-/// Only `push_queued`, `push_blocked` and `drain_queued` allocate.
+/// No call but `push_queued`, `push_blocked` and `drain_queued` can be refused memory.
 #[derive(Drop)]
 pub struct MessageChain<T, A: Allocator> {
     chain: Chain<OptionalPlace, T, A>,

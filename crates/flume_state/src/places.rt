@@ -9,7 +9,7 @@ use std::alloc::{AllocError, Allocator};
 use std::marker::Model;
 use ticket_table::TicketTable;
 
-/// The place of each of some tickets. Only `insert` allocates.
+/// The place of each of some tickets. Only `insert` can be refused memory.
 #[derive(Drop)]
 pub struct Places<A: Allocator> {
     // A ticket that was alone when it came: so one that comes by itself needs no table.

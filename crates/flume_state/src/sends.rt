@@ -34,7 +34,8 @@ pub struct PlacedSend<S> {
     pub send: LiveSend<S>,
 }
 
-/// The live send of each live ticket, each at a place that it keeps. Only `block` allocates.
+/// The live send of each live ticket, each at a place that it keeps. Only `block` can be
+/// refused memory.
 #[derive(Drop)]
 pub struct Sends<S, A: Allocator> {
     // First those that aren't due, then those that are, in the order in which they became due.

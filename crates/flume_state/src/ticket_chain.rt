@@ -1,4 +1,4 @@
-//! Elements in order, each found by its ticket at the same cost.
+//! Elements in order, each found by its ticket through a hash table.
 ghost use Rattle.std.specs.Prelude.{◌≡◌, ◌≤◌, ◌++◌, ◌∷◌, ◌↔◌, [], ℕ, true, false};
 ghost use Rattle.std.specs.Prelude.{None, Some, length};
 ghost use Rattle.std.specs.Prelude.{IsSome, IfOk, IfErr, OnOk, OnErr, option_copied};
@@ -16,7 +16,7 @@ use std::alloc::Allocator;
 use std::cell::Cell;
 use std::marker::Model;
 
-/// Elements in order, each with a place and a ticket. Only `insert` allocates.
+/// Elements in order, each with a place and a ticket. Only `insert` can be refused memory.
 #[derive(Drop)]
 pub struct TicketChain<E, A: Allocator> {
     chain: Chain<u64, E, A>,

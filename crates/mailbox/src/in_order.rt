@@ -8,7 +8,7 @@ pub const WORKERS: u64 = 3;
 /// Each worker sends the numbers from 1 to this one.
 pub const MESSAGES: u64 = 100;
 
-/// Whether the messages of all workers arrived, and those of each in order. Doesn't allocate.
+/// Whether the messages of all workers arrived, and those of each in order.
 /// ```
 /// in_order(&[]);                     // false: there are no numbers
 /// in_order(&[(0, 1)]);               // false: most are lacking

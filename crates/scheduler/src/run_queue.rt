@@ -45,7 +45,7 @@ impl Model for RunQueue {
 }
 
 impl RunQueue {
-    /// A queue of no task. Doesn't allocate.
+    /// A queue of no task.
     /// ```
     /// let mut queue = RunQueue::new(alloc);
     /// queue.turn();                      // Idle

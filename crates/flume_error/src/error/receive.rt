@@ -22,7 +22,7 @@ pub enum TryRecvError {
     /// No message is queued, and the channel isn't closed: one may still come.
     Empty,
     Disconnected,
-    /// Comes only of a converted `RecvError`: a receive that doesn't wait never allocates.
+    /// The list of a `try_recv_many` can't grow. A `try_recv` never answers it.
     NoMemory,
 }
 

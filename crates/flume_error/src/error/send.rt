@@ -37,7 +37,7 @@ pub enum SendTimeoutError<T> {
 }
 
 impl<T> SendError<T> {
-    /// The message that wasn't sent, whatever the reason. Doesn't allocate.
+    /// The message that wasn't sent, whatever the reason.
     /// ```
     /// SendError::Disconnected(7).into_inner(); // 7
     /// ```
@@ -61,7 +61,7 @@ impl<T> SendError<T> {
 }
 
 impl<T> TrySendError<T> {
-    /// The message that wasn't sent, whatever the reason. Doesn't allocate.
+    /// The message that wasn't sent, whatever the reason.
     /// ```
     /// TrySendError::Full(7).into_inner(); // 7
     /// ```
@@ -87,7 +87,7 @@ impl<T> TrySendError<T> {
 }
 
 impl<T> SendTimeoutError<T> {
-    /// The message that wasn't sent, whatever the reason. Doesn't allocate.
+    /// The message that wasn't sent, whatever the reason.
     /// ```
     /// SendTimeoutError::Timeout(7).into_inner(); // 7
     /// ```

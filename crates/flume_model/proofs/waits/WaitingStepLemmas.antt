@@ -36,7 +36,7 @@ module _ {T A : Type 0} where
   pub line_long : (o : Opening) (log : Log T A) → length (channel o log).line ≡ length (line log)
   line_long o log = length-map (line log) (λ offer. offer.message)
 
-  -- as much is queued as the queue_len says
+  -- `queue_len` counts the queued messages
   queue_long : (o : Opening) (log : Log T A) → IsRun o log → length (queue o log) ≡ queue_len o log
   queue_long o log run =
       length-map (take (queue_len o log) (line log)) (λ offer. offer.message)
