@@ -1,8 +1,8 @@
 -- A channel between two calls of its ends, and what a call leaves.
-use Rattle.std.specs.Prelude.{ℕ}
+use Rattle.std.specs.Prelude.{◌≡◌, ◌<◌, ◌+◌, ℕ}
 use Rattle.flume_state.specs.Sends.{NoDueSend}
 use Rattle.flume_state.specs.Receivers.{NoDueReceiver}
-use Rattle.flume_state.specs.State.{State}
+use Rattle.flume_state.specs.State.{State, message_count}
 use Rattle.flume_core.specs.Represents.{IsReachable, SameLogs}
 use Rattle.flume_calls.specs.Rings.{Rings}
 
@@ -12,6 +12,11 @@ module _ {T S : Type 0} where
     pub reachable : IsReachable A s
     pub sends : NoDueSend s.sends
     pub receivers : NoDueReceiver s.entries
+
+  -- no message is queued or blocked, and an end lives
+  pub record IsEmptied (s : State T S) : Type 0 where
+    pub none_left : message_count s ≡ 0
+    pub end_lives : 0 < s.senders + s.receivers
 
 module _ {T S N B : Type 0} (A : Type 0) (rings : B → ℕ → S → B → Type 0) where
   -- one turn, and then one ring of the bell for each ticket that is due

@@ -1,5 +1,5 @@
 -- Several steps of a channel, with nothing between them.
-use Rattle.std.specs.Prelude.{List, [], ◌∷◌}
+use Rattle.std.specs.Prelude.{◌≡◌, List, [], ◌∷◌, ◌++◌}
 use Rattle.flume_model.specs.declared.step.Step.{Step}
 use Rattle.flume_model.specs.declared.step.Reply.{Reply}
 use Rattle.flume_model.specs.Log.{Log}
@@ -29,28 +29,28 @@ module _ {T A : Type 0} where
       pub reachable : StepsBetween old made new
       pub answered : table made answer
 
-module _ {T S : Type 0} (A : Type 0) where
-  -- some steps lead from the state before to the state after
-  abbrev pub LeadsTo : State T S → State T S → Type 0
-  LeadsTo old new = (made : List (Step T × Reply T A)) × StepsBetween old made new
-
 module _ {T S A : Type 0} where
   -- some steps, and then others
   pub join_steps : {old between new : State T S} {made more : List (Step T × Reply T A)}
-      → StepsBetween old made between → StepsBetween between more new → LeadsTo A old new
-  join_steps {more = more} NoSteps rest = (more, rest)
-  join_steps (FirstStep {step = step} {reply = reply} stepped later) rest =
-      let made = join_steps later rest in
-      ((step, reply) ∷ made.0, FirstStep stepped made.1)
+      → StepsBetween old made between → StepsBetween between more new
+      → StepsBetween old (made ++ more) new
+  join_steps NoSteps rest = rest
+  join_steps (FirstStep stepped later) rest = FirstStep stepped (join_steps later rest)
 
-module _ {T S A N : Type 0} where
-  -- a turn of one step is made of it
-  abbrev pub by_step : {step : Step T} {table : Reply T A → N → Type 0} {old new : State T S}
-      {answer : N} → Turned step table old new answer → LeadsTo A old new
-  by_step {step = step} turn =
-      ((step, turn.reply) ∷ [], FirstStep turn.stepped NoSteps)
+module _ {T A N : Type 0} where
+  -- one step was made, and the table has the answer to its reply
+  pub record IsOneStep (step : Step T) (table : Reply T A → N → Type 0)
+      (made : List (Step T × Reply T A)) (answer : N) : Type 0 where
+    pub reply : Reply T A
+    pub is : made ≡ (step, reply) ∷ []
+    pub answered : table reply answer
 
-  -- a turn of several steps is made of them
-  abbrev pub by_steps : {table : List (Step T × Reply T A) → N → Type 0} {old new : State T S}
-      {answer : N} → IsBatch table old new answer → LeadsTo A old new
-  by_steps batch = (batch.made, batch.reachable)
+  -- a turn of one step is a batch of it
+  abbrev pub by_step : {S : Type 0} {step : Step T} {table : Reply T A → N → Type 0}
+      {old new : State T S} {answer : N} → Turned step table old new answer
+      → IsBatch (IsOneStep step table) old new answer
+  by_step {step = step} turn = record {
+    made = (step, turn.reply) ∷ [];
+    reachable = FirstStep turn.stepped NoSteps;
+    answered = record { reply = turn.reply; is = λ i. (step, turn.reply) ∷ []; answered = turn.answered };
+  }

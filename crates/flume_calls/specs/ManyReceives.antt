@@ -11,7 +11,8 @@ use Rattle.flume_core.specs.declared.error.RecvTimeoutError.TheVariants.{Disconn
 use Rattle.flume_calls.specs.declared.calls.receive.RecvNext.{RecvNext}
 use Rattle.flume_calls.specs.declared.calls.receive.RecvNext.TheVariants.{Done, NeedSignal, Park}
 use Rattle.flume_calls.specs.declared.calls.receive.RecvNext.TheVariants.{Refused}
-use Rattle.flume_calls.specs.Batches.{StepsBetween}
+use Rattle.flume_calls.specs.declared.calls.receive_many.ManyNext.{ManyNext}
+use Rattle.flume_calls.specs.Batches.{StepsBetween, IsBatch, join_steps}
 use Rattle.flume_calls.specs.ReceiveTurns.{after_try_recv, GivesNone}
 
 -- a call takes at most this many, and none only if it was to take none
@@ -117,3 +118,33 @@ module _ {T S : Type 0} (A : Type 0) where
     pub none_behind : given_by first ≡ [] → new ≡ between
     pub all_behind : (message : T) → first ≡ Done (Ok message)
         → TakesAll more (message_count between) (length taken) after
+
+module _ {T A : Type 0} where
+  -- the table of that turn, of which `makes` is the first part's
+  pub record MakesMore (makes : List (Step T × Reply T A) → RecvNext T → Type 0) (before : Vec T A)
+      (more : ℕ) (made : List (Step T × Reply T A)) (answer : ManyNext T A) : Type 0 where
+    pub first_made : List (Step T × Reply T A)
+    pub first : RecvNext T
+    pub taken : List T
+    pub answered : makes first_made first
+    pub steps : made ≡ first_made ++ each_got taken
+    pub gives : Gives before.items more first taken answer.buffer.items answer.next
+
+  -- that turn is a batch of these steps
+  abbrev pub makes_more : {S : Type 0} {does : State T S → State T S → RecvNext T → Type 0}
+      {makes : List (Step T × Reply T A) → RecvNext T → Type 0} {before : Vec T A} {more : ℕ}
+      {old new : State T S} {answer : ManyNext T A}
+      → (did : TurnAndMore A does before more old new answer.buffer answer.next)
+      → IsBatch makes old did.between did.first → IsBatch (MakesMore makes before more) old new answer
+  makes_more did batch = record {
+    made = batch.made ++ each_got did.taken;
+    reachable = join_steps batch.reachable did.reachable;
+    answered = record {
+      first_made = batch.made;
+      first = did.first;
+      taken = did.taken;
+      answered = batch.answered;
+      steps = λ i. batch.made ++ each_got did.taken;
+      gives = did.gives;
+    };
+  }

@@ -6,21 +6,20 @@ use Rattle.flume_model.specs.declared.step.Reply.{Reply}
 use Rattle.flume_model.specs.declared.step.Reply.TheVariants as reply
 use Rattle.flume_core.specs.declared.error.CapacityError.{CapacityError}
 use Rattle.flume_core.specs.declared.error.CapacityError.TheVariants as error
-use Rattle.flume_calls.specs.declared.single.SingleStep.{SingleStep}
-use Rattle.flume_calls.specs.declared.single.SingleStep.TheVariants as single
+use Rattle.flume_calls.specs.declared.single.EndStep.{EndStep}
+use Rattle.flume_calls.specs.declared.single.EndStep.TheVariants as end
 use Rattle.flume_calls.specs.declared.single.CountQuery.{CountQuery}
 use Rattle.flume_calls.specs.declared.single.CountQuery.TheVariants as number
 use Rattle.flume_calls.specs.declared.single.FlagQuery.{FlagQuery}
 use Rattle.flume_calls.specs.declared.single.FlagQuery.TheVariants as flag
 
 module _ {T : Type 0} where
-  -- the step that a single turn makes
-  abbrev pub step_of : SingleStep → Step T
-  step_of single.Drain = step.Drain
-  step_of single.CloneSender = step.CloneSender
-  step_of single.CloneReceiver = step.CloneReceiver
-  step_of single.DropSender = step.DropSender
-  step_of single.DropReceiver = step.DropReceiver
+  -- the step of an end
+  abbrev pub end_step : EndStep → Step T
+  end_step end.CloneSender = step.CloneSender
+  end_step end.CloneReceiver = step.CloneReceiver
+  end_step end.DropSender = step.DropSender
+  end_step end.DropReceiver = step.DropReceiver
 
   -- the step that asks for a number
   abbrev pub count_query_step : CountQuery → Step T

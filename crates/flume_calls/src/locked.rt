@@ -1,5 +1,5 @@
 //! What a channel's lock protects.
-ghost use Rattle.std.specs.Prelude.{◌≡◌, ◌↔◌, IsTrue, IsSome, None, length};
+ghost use Rattle.std.specs.Prelude.{◌≡◌, ◌↔◌, [], IsTrue, IsSome, None, length};
 ghost use Rattle.std.specs.Option.{option_copied, option_and_then};
 ghost use Rattle.flume_model.specs.Log.{opens};
 ghost use Rattle.flume_model.specs.Entries.{waiting_count, woken_count};
@@ -7,9 +7,9 @@ ghost use Rattle.flume_state.specs.Sends.{NoDueSend};
 ghost use Rattle.flume_state.specs.Receivers.{NoDueReceiver};
 ghost use Rattle.flume_state.specs.State.{State, new_state};
 ghost use Rattle.flume_state.specs.Signals.{signal_of};
-ghost use Rattle.flume_core.specs.Represents.{IsReachable};
+ghost use Rattle.flume_core.specs.Represents.{IsReachable, Represents};
 ghost use Rattle.flume_core.specs.StateFacts.{ChannelFacts, NobodyIsStuck};
-ghost use Rattle.flume_calls.specs.AtRest.{IsAtRest, IsCallAtRest};
+ghost use Rattle.flume_calls.specs.AtRest.{IsAtRest, IsCallAtRest, IsEmptied};
 ghost use Rattle.flume_calls.specs.EachIsRung.{EachIsRung};
 ghost use Rattle.flume_calls.specs.Polls.{IsPollCall, AtMostOneStep};
 ghost use Rattle.flume_calls.specs.NoCallWaits.{NoCallWaits};
@@ -19,6 +19,7 @@ use crate::polled::Polled;
 use crate::turn::Turn;
 use flume_core::chan::Chan;
 use flume_core::facts::facts;
+use flume_model::step::Reply;
 use std::alloc::Allocator;
 use std::marker::Model;
 
@@ -55,6 +56,7 @@ impl<T: Drop, S: Drop, A: Allocator + Copy> Locked<T, S, A> {
     #[inline(always)]
     pub fn new(alloc: A, capacity: Option<usize>) -> Self
         ensures state { result ≡ new_state (opens capacity 1) }
+        ensures represents { Represents {A = A} (opens capacity 1) [] result }
     {
         Locked {
             chan: Chan::new(alloc, capacity),
@@ -140,6 +142,22 @@ impl<T: Drop, S: Drop, A: Allocator + Copy> Locked<T, S, A> {
         ensures waiting { result ≡ waiting_count self.now.entries }
     {
         self.chan.waiting_len()
+    }
+
+    /// Whether no message is queued or blocked, and an end lives. No step.
+    pub fn is_emptied(&self) -> bool
+        ensures emptied { IsTrue result ↔ IsEmptied self.now }
+    {
+        if self.chan.available(1) > 0 {
+            return false;
+        }
+        let Reply::Number(senders) = self.chan.sender_count() else {
+            unreachable!();
+        };
+        let Reply::Number(receivers) = self.chan.receiver_count() else {
+            unreachable!();
+        };
+        senders > 0 || receivers > 0
     }
 
     /// The signal that the parked call left last. No step.

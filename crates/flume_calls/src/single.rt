@@ -1,6 +1,6 @@
 //! The turns that are a whole call.
 ghost use Rattle.flume_calls.specs.Turns.{Turned};
-ghost use Rattle.flume_calls.specs.Batches.{by_step};
+ghost use Rattle.flume_calls.specs.Batches.{IsOneStep, by_step};
 
 use crate::turn::Turn;
 use flume_core::chan::Chan;
@@ -8,39 +8,65 @@ use flume_core::error::CapacityError;
 use flume_model::step::{Reply, Step};
 use std::alloc::Allocator;
 
-/// The steps whose reply is the answer. A refusal changes nothing.
+/// Takes all queued messages, in order; then lets blocked sends in. A refusal changes nothing.
 #[derive(Clone, Copy, Drop)]
-pub enum SingleStep {
-    Drain,
+pub struct DrainQueue;
+
+impl<T: Drop, S: Drop, A: Allocator + Copy> Turn<T, S, A> for DrainQueue {
+    ghost use Rattle.std.specs.Prelude.{◌≡◌};
+    ghost use Rattle.flume_model.specs.declared.step.Step.TheVariants.{Drain};
+    ghost use Rattle.flume_core.specs.Represents.{ChangesNothing};
+    ghost use Rattle.flume_core.specs.PossibleReply.{PossibleReply};
+
+    type Answer = Reply<T, A>;
+
+    ghost does = { λ _ old new answer. Turned {A = A} Drain (λ reply same. same ≡ reply)
+        old new answer × (ChangesNothing Drain answer → new ≡ old) };
+
+    ghost makes = { λ _. IsOneStep Drain (λ reply same. same ≡ reply) };
+
+    ghost leads = { λ _ old new answer does. by_step does.0 };
+
+    ghost answers = { λ _. PossibleReply Drain };
+
+    fn apply(self, chan: &mut Chan<T, S, A>) -> Reply<T, A> {
+        chan.drain()
+    }
+}
+
+/// A clone or a drop of an end. A refusal changes nothing.
+#[derive(Clone, Copy, Drop)]
+pub enum EndStep {
     CloneSender,
     CloneReceiver,
     DropSender,
     DropReceiver,
 }
 
-impl<T: Drop, S: Drop, A: Allocator + Copy> Turn<T, S, A> for SingleStep {
+impl<T: Drop, S: Drop, A: Allocator + Copy> Turn<T, S, A> for EndStep {
     ghost use Rattle.std.specs.Prelude.{◌≡◌};
     ghost use Rattle.flume_core.specs.Represents.{ChangesNothing};
     ghost use Rattle.flume_core.specs.PossibleReply.{PossibleReply};
-    ghost use Rattle.flume_calls.specs.Singles.{step_of};
+    ghost use Rattle.flume_calls.specs.Singles.{end_step};
 
     type Answer = Reply<T, A>;
 
     ghost does = { λ turn old new answer.
-        Turned {A = A} (step_of turn) (λ reply same. same ≡ reply) old new answer
-        × (ChangesNothing (step_of turn) answer → new ≡ old) };
+        Turned {A = A} (end_step turn) (λ reply same. same ≡ reply) old new answer
+        × (ChangesNothing (end_step turn) answer → new ≡ old) };
+
+    ghost makes = { λ turn. IsOneStep (end_step turn) (λ reply same. same ≡ reply) };
 
     ghost leads = { λ _ old new answer does. by_step does.0 };
 
-    ghost answers = { λ turn. PossibleReply (step_of turn) };
+    ghost answers = { λ turn. PossibleReply (end_step turn) };
 
     fn apply(self, chan: &mut Chan<T, S, A>) -> Reply<T, A> {
         match self {
-            SingleStep::Drain => chan.drain(),
-            SingleStep::CloneSender => chan.clone_sender(),
-            SingleStep::CloneReceiver => chan.clone_receiver(),
-            SingleStep::DropSender => chan.drop_sender(),
-            SingleStep::DropReceiver => chan.drop_receiver(),
+            EndStep::CloneSender => chan.clone_sender(),
+            EndStep::CloneReceiver => chan.clone_receiver(),
+            EndStep::DropSender => chan.drop_sender(),
+            EndStep::DropReceiver => chan.drop_receiver(),
         }
     }
 }
@@ -62,6 +88,9 @@ impl<T: Drop, S: Drop, A: Allocator + Copy> Turn<T, S, A> for CountQuery {
 
     ghost does = { λ turn old new answer. Turned {A = A} (count_query_step turn)
         (λ reply number. reply ≡ Number number) old new answer × (new ≡ old) };
+
+    ghost makes = { λ turn. IsOneStep (count_query_step turn)
+        (λ reply number. reply ≡ Number number) };
 
     ghost leads = { λ _ old new answer does. by_step does.0 };
 
@@ -98,6 +127,8 @@ impl<T: Drop, S: Drop, A: Allocator + Copy> Turn<T, S, A> for FlagQuery {
     ghost does = { λ turn old new answer. Turned {A = A} (flag_query_step turn)
         (λ reply flag. reply ≡ Flag flag) old new answer × (new ≡ old) };
 
+    ghost makes = { λ turn. IsOneStep (flag_query_step turn) (λ reply flag. reply ≡ Flag flag) };
+
     ghost leads = { λ _ old new answer does. by_step does.0 };
 
     ghost answers = { λ _ _. Unit {0} };
@@ -129,6 +160,8 @@ impl<T: Drop, S: Drop, A: Allocator + Copy> Turn<T, S, A> for CapacityQuery {
     ghost does = { λ _ old new answer. Turned {A = A} AskForCapacity
         (λ reply capacity. reply ≡ Capacity capacity) old new answer × (new ≡ old) };
 
+    ghost makes = { λ _. IsOneStep AskForCapacity (λ reply capacity. reply ≡ Capacity capacity) };
+
     ghost leads = { λ _ old new answer does. by_step does.0 };
 
     ghost answers = { λ _ _. Unit {0} };
@@ -157,6 +190,8 @@ impl<T: Drop, S: Drop, A: Allocator + Copy> Turn<T, S, A> for SetCapacity {
     ghost does = { λ turn old new answer.
         Turned {A = A} (step.SetCapacity turn.capacity) after_set_capacity old new answer
         × OnErr answer (new ≡ old) };
+
+    ghost makes = { λ turn. IsOneStep (step.SetCapacity turn.capacity) after_set_capacity };
 
     ghost leads = { λ _ old new answer does. by_step does.0 };
 

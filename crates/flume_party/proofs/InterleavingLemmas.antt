@@ -1,8 +1,11 @@
 -- Two lists, merged into one.
 use Rattle.std.proofs.Common.{◌≡◌, ℕ, suc, ◌+◌, ◌==◌, Bool, true, false, ◌||◌, List, [], ◌∷◌}
-use Rattle.std.proofs.Common.{◌++◌, length, refl, sym, subst, ◌∙◌, arith, if◌then◌else◌}
+use Rattle.std.proofs.Common.{◌++◌, length, refl, ap, sym, subst, ◌∙◌, arith, if◌then◌else◌}
 use Rattle.std.proofs.lemmas.Bool.Decides.{nat_tests}
+use Rattle.std.proofs.lemmas.List.Sorted.{IsPermutation-refl, IsPermutation-cons}
+use Rattle.std.proofs.lemmas.List.Sorted.{IsPermutation-trans, IsPermutation-append_comm}
 use Rattle.std.specs.List.{flat_map, list_all}
+use Rattle.std.specs.List.Sorted.{IsPermutation}
 use mathlib.Core.List.{IsPrefix}
 use Rattle.flume_trace.specs.Positions.{is_among, AreApart, AreBelow}
 use Rattle.flume_party.specs.Picks.{picked_from, picked}
@@ -88,3 +91,30 @@ module _ {X : Type 0} where
       omega (arith, interleaved_length xs ys zs rest)
   interleaved_length _ _ _ (Right {xs = xs} {ys = ys} {zs = zs} rest) =
       omega (arith, interleaved_length xs ys zs rest)
+
+  -- a list merged with none is itself
+  pub interleaved_alone : (xs zs : List X) → Interleaving xs [] zs → zs ≡ xs
+  interleaved_alone _ _ End = refl
+  interleaved_alone _ _ (Left {x = x} {xs = xs} {zs = zs} rest) =
+      ap (λ list. x ∷ list) (interleaved_alone xs zs rest)
+
+  -- the two lists in the other order
+  pub interleaved_swap : (xs ys zs : List X) → Interleaving xs ys zs → Interleaving ys xs zs
+  interleaved_swap _ _ _ End = End
+  interleaved_swap _ _ _ (Left {xs = xs} {ys = ys} {zs = zs} rest) =
+      Right (interleaved_swap xs ys zs rest)
+  interleaved_swap _ _ _ (Right {xs = xs} {ys = ys} {zs = zs} rest) =
+      Left (interleaved_swap xs ys zs rest)
+
+  -- an interleaving has the elements of both lists
+  pub interleaved_permutes : (xs ys zs : List X) → Interleaving xs ys zs
+      → IsPermutation (xs ++ ys) zs
+  interleaved_permutes _ _ _ End = IsPermutation-refl []
+  interleaved_permutes _ _ _ (Left {x = x} {xs = xs} {ys = ys} {zs = zs} rest) =
+      IsPermutation-cons x (xs ++ ys) zs (interleaved_permutes xs ys zs rest)
+  interleaved_permutes _ _ _ (Right {y = y} {xs = xs} {ys = ys} {zs = zs} rest) =
+      let swapped = IsPermutation-append_comm ys xs in
+      let later = IsPermutation-trans (ys ++ xs) (xs ++ ys) zs swapped
+      (interleaved_permutes xs ys zs rest) in
+      IsPermutation-trans (xs ++ y ∷ ys) (y ∷ (ys ++ xs)) (y ∷ zs)
+      (IsPermutation-append_comm xs (y ∷ ys)) (IsPermutation-cons y (ys ++ xs) zs later)

@@ -9,8 +9,8 @@ use flume_trace::{Claim, TraceName};
 use std::marker::{Model, PhantomData};
 use std::sync::ledger::{Ledger, Share};
 
-/// Some parts of the right to act, and the actions that were made by them. Contracts see a
-/// `PartyState`. The parts of a party that is dropped are lost: no party has all then.
+/// Some parts of the right to act, at least one, and the actions that were made by them. Contracts
+/// see a `PartyState`. The parts of a party that is dropped are lost: no party has all then.
 #[derive(Drop)]
 pub struct Party<E, J: TraceName + Ledger, O: Ownership<E> = AllOwned> {
     claim: Claim<E, J>,
@@ -21,19 +21,22 @@ pub struct Party<E, J: TraceName + Ledger, O: Ownership<E> = AllOwned> {
 
 impl<E, J: TraceName + Ledger, O: Ownership<E>> Model for Party<E, J, O> {
     ghost use Rattle.flume_party.specs.Owners.{actions_of};
-    ghost use Rattle.flume_party.specs.Picks.{Matches, picked};
+    ghost use Rattle.flume_party.specs.Picks.{HasParts, picked};
     ghost use Rattle.flume_party.specs.Parties.{PartyState, party_of};
 
     ghost Value = { PartyState E };
 
-    ghost view = { λ p. party_of p.share.parts (actions_of (picked p.claim.positions p.claim.seen)) };
+    ghost view = { λ p.
+        party_of p.share.parts (actions_of (picked p.claim.positions p.claim.seen)) };
 
-    ghost invariant = { λ p. Matches O.is_owned p.share.amount p.claim.seen p.claim.positions };
+    ghost invariant = { λ p. HasParts O.is_owned p.share.parts p.share.amount
+        p.claim.seen p.claim.positions };
 }
 
 impl<E, J: TraceName + Ledger, O: Ownership<E>> Party<E, J, O> {
     pub(crate) fn new(claim: Claim<E, J>, share: Share<J>) -> Party<E, J, O>
         requires nothing { (claim.seen ≡ []) × (claim.positions ≡ []) × (share.amount ≡ 0) }
+        requires some { 0 < share.parts }
         ensures parts { result ≡ party_of share.parts [] }
     {
         Party {
@@ -49,7 +52,6 @@ impl<E, J: TraceName + Ledger, O: Ownership<E>> Party<E, J, O> {
     /// party.record::<u64, Once>(&mut trace, &7);
     /// ```
     pub fn record<V, M: Records<V, E>>(&mut self, trace: &mut SharedTrace<E, J, O>, evidence: &V)
-        requires part { 0 < self.old.parts }
         requires some { (actions : List E)
             × M.may evidence.now trace.old actions × AreOwned O.is_owned actions }
         ensures recorded { Recorded (M.may evidence.now trace.old) O.is_owned
@@ -75,11 +77,12 @@ impl<E, J: TraceName + Ledger, O: Ownership<E>> Party<E, J, O> {
         trace.book.audit(&mut self.share);
     }
 
-    /// A party with some of the parts, and without an action. At least one part is left.
+    /// A party with some of the parts, but not all, and without an action.
     /// ```
     /// let other = party.split_off(1);
     /// ```
     pub fn split_off(&mut self, parts: u64) -> Party<E, J, O>
+        requires some { 0 < parts }
         requires fewer { parts < self.old.parts }
         ensures new { result ≡ party_of parts [] }
         ensures rest { self.new ≡ without_parts self.old parts }

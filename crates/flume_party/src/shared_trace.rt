@@ -1,5 +1,5 @@
 //! The trace that parties share.
-ghost use Rattle.std.specs.Prelude.{◌≡◌, ◌++◌, List, []};
+ghost use Rattle.std.specs.Prelude.{◌≡◌, ◌<◌, ◌++◌, List, []};
 ghost use Rattle.flume_party.specs.Owners.{AreUnowned};
 ghost use Rattle.flume_party.specs.Parties.{party_of};
 
@@ -47,6 +47,7 @@ impl<E, J: TraceName + Ledger, O: Ownership<E>> SharedTrace<E, J, O> {
         requires trace { (trace.trace_name ≡ J.trace_name)
             × (trace.positions_name ≡ J.positions_name) }
         requires parts { (parts.name ≡ J.name) × (parts.parts ≡ J.parts) }
+        requires some { 0 < parts.parts }
         ensures empty { result.0 ≡ [] }
         ensures whole { result.1 ≡ party_of J.parts [] }
     {

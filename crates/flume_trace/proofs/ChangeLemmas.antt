@@ -55,23 +55,23 @@ module _ {M : Type 1} {𝓤 : Ura M} (𝓛 : Logic 𝓤) where
 
     -- the right to append to these writes
     abbrev Latest : List (List E) → Fml
-    Latest writes = latest growing full_share γ (codes c writes)
+    Latest writes = latest growing full_share γ (codes c.code writes)
 
     -- that the trace begins with these writes
     abbrev Begins : List (List E) → Fml
-    Begins seen = at_least growing γ (codes c seen)
+    Begins seen = at_least growing γ (codes c.code seen)
 
     -- what a trace owns
     abbrev Trace : List (List E) → Fml
-    Trace writes = trace_owns c γ δ writes
+    Trace writes = trace_owns c.code γ δ writes
 
     -- what a claim owns
     abbrev Claim : List (List E) → List ℕ → Fml
-    Claim seen ps = claim_owns c γ δ seen ps
+    Claim seen ps = claim_owns c.code γ δ seen ps
 
     -- whoever may append to the writes sees them
     is_seen : (writes : List (List E)) → ⟦ Latest writes ⟧ ⊢ ⟦ Latest writes ⟧ ∗ ⟦ Begins writes ⟧
-    is_seen writes = let cs : List Gv = codes c writes in
+    is_seen writes = let cs : List Gv = codes c.code writes in
         latest_shows growing 𝓛 full_share γ cs cs (prefix_refl cs)
 
     -- an empty trace gets a name, and the claim that has seen nothing
@@ -98,9 +98,9 @@ module _ {M : Type 1} {𝓤 : Ura M} (𝓛 : Logic 𝓤) where
         qed 𝓛 ((‵ (Latest writes) ⊛ ‵ (tickets_from δ n))
         ∷ ‵ (Begins seen) ∷ ‵ (tickets_of δ ps) ∷ []) ∵
         updating ! $ split ! $ move ! (0 ∷ 2 ∷ []) $
-        use2 𝓛 (given (IsPrefix (codes c seen) (codes c writes))
+        use2 𝓛 (given (IsPrefix (codes c.code seen) (codes c.code writes))
         (‵ (Latest writes) ⊛ ‵ (Begins seen)))
-        (latest_bounds growing 𝓛 full_share γ (codes c writes) (codes c seen)) $
+        (latest_bounds growing 𝓛 full_share γ (codes c.code writes) (codes c.code seen)) $
         learn ! (λ begins. split ! $ move ! (3 ∷ 2 ∷ []) $
         -- [the tickets of ps; those from n on; the right to append; what was seen]
         use2 𝓛 (given (AreBelow n ps) (‵ (tickets_of δ ps) ⊛ ‵ (tickets_from δ n)))
@@ -111,8 +111,8 @@ module _ {M : Type 1} {𝓤 : Ura M} (𝓛 : Logic 𝓤) where
         (are_taken 𝓛 δ n (length all) more (length-append writes more)) $
         split ! $ move ! (2 ∷ 0 ∷ []) $
         use2 𝓛 (‵ (tickets_of δ (ps ++ new))) (are_joined 𝓛 δ ps new) $ move ! (2 ∷ []) $
-        use1 𝓛 (later (‵ (Latest all))) (via 𝓤 _ (latest_grows growing 𝓛 γ (codes c writes)
-        (codes c all) (coded_prefix coded_write writes more)) (basic 𝓛 _)) $ await ! tt $
+        use1 𝓛 (later (‵ (Latest all))) (via 𝓤 _ (latest_grows growing 𝓛 γ (codes c.code writes)
+        (codes c.code all) (coded_prefix coded_write writes more)) (basic 𝓛 _)) $ await ! tt $
         use1 𝓛 (‵ (Latest all) ⊛ ‵ (Begins all)) (is_seen all) $ split ! $
         -- [the right to append; what is seen; the tickets of ps and new; those left; what was seen]
         move ! (0 ∷ 3 ∷ []) $ fjoin ! $ move ! (3 ∷ []) $ drop ! $ move ! (1 ∷ 2 ∷ []) $ fjoin ! $
@@ -124,7 +124,7 @@ module _ {M : Type 1} {𝓤 : Ura M} (𝓛 : Logic 𝓤) where
         → ⟦ Claim seen ps ⟧ ⊢ ⟦ Claim seen ps ⟧ ∗ ⟦ Claim seen [] ⟧
     unfolding claim_owns
     is_split seen ps = qed 𝓛 (‵ (Begins seen) ∷ ‵ (tickets_of δ ps) ∷ []) ∵
-        use1 𝓛 (‵ (Begins seen) ⊛ ‵ (Begins seen)) (at_least_dup growing 𝓛 γ (codes c seen)) $
+        use1 𝓛 (‵ (Begins seen) ⊛ ‵ (Begins seen)) (at_least_dup growing 𝓛 γ (codes c.code seen)) $
         split ! $ move ! (0 ∷ 2 ∷ []) $ fjoin ! $ frame ! $
         nothing ! $ move ! (1 ∷ 0 ∷ []) $ fjoin ! $ done !
 
@@ -132,8 +132,8 @@ module _ {M : Type 1} {𝓤 : Ura M} (𝓛 : Logic 𝓤) where
     are_in_line : (xs ys : List (List E)) → ⟦ Begins xs ⟧ ∗ ⟦ Begins ys ⟧
         ⊢ guard 𝓤 (IsPrefix xs ys ⊎ IsPrefix ys xs) (⟦ Begins xs ⟧ ∗ ⟦ Begins ys ⟧)
     are_in_line xs ys =
-        let a : List Gv = codes c xs in
-        let b : List Gv = codes c ys in
+        let a : List Gv = codes c.code xs in
+        let b : List Gv = codes c.code ys in
         qed 𝓛 (‵ (Begins xs) ∷ ‵ (Begins ys) ∷ []) ∵
         use1 𝓛 (‵ (Begins xs) ⊛ ‵ (Begins xs)) (at_least_dup growing 𝓛 γ a) $ split ! $
         move ! (2 ∷ []) $

@@ -1,6 +1,6 @@
 -- Nothing that the types own is tied to a thread.
 use Rattle.std.proofs.Common.{ℕ, List, [], ◌∷◌}
-use base.Stored.{Coded}
+use base.Stored.{Gv}
 use base.Shift.{Keyless}
 use types.Keyed.{token, entry_keyless, entries_keyless}
 use Rattle.flume_trace.specs.Tokens.{tickets_of, unopened_owns, trace_owns, claim_owns}
@@ -13,7 +13,7 @@ pub unopened_keyless : (γ δ : ℕ) → Keyless (unopened_owns γ δ)
 unfolding unopened_owns base.Growing.latest
 unopened_keyless γ δ = (tt, entries_keyless token δ 0 (λ _. tt))
 
-module _ {E : Type 0} (c : Coded E) (γ δ : ℕ) where
+module _ {E : Type 0} (c : E → Gv) (γ δ : ℕ) where
   pub trace_keyless : (writes : List (List E)) → Keyless (trace_owns c γ δ writes)
   unfolding trace_owns base.Growing.latest
   trace_keyless writes = (tt, entries_keyless token δ _ (λ _. tt))

@@ -2,7 +2,7 @@
 -- an exclusive ticket.
 use Rattle.std.specs.Prelude.{ℕ, List, [], ◌∷◌, map, length}
 use base.Fraction.{full_share}
-use base.Stored.{Gv, Coded, coded_list}
+use base.Stored.{Gv, Coded, code_l}
 use base.Growing.{Order, prefixes, latest, at_least}
 use base.Fml.{Fml, ftrue, fsep}
 use types.Keyed.{ticket, tickets_from}
@@ -24,10 +24,10 @@ tickets_of δ (p ∷ ps) = fsep (ticket δ p) (tickets_of δ ps)
 unfoldable pub unopened_owns : ℕ → ℕ → Fml
 unopened_owns γ δ = fsep (latest growing full_share γ []) (tickets_from δ 0)
 
-module _ {E : Type 0} (c : Coded E) where
+module _ {E : Type 0} (c : E → Gv) where
   -- the trace as ghost values
   abbrev pub codes : List (List E) → List Gv
-  codes writes = map (coded_list c).code writes
+  codes writes = map (code_l c) writes
 
   -- the right to append to these writes, with all positions from their number on
   unfoldable pub trace_owns : ℕ → ℕ → List (List E) → Fml

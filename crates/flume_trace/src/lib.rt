@@ -62,7 +62,7 @@ pub struct Trace<E, J: TraceName> {
 }
 
 impl<E, J: TraceName> Model for Trace<E, J> {
-    ghost also_owns = { λ t. trace_owns E.row.coded J.trace_name J.positions_name t.writes };
+    ghost also_owns = { λ t. trace_owns E.row.coded.code J.trace_name J.positions_name t.writes };
 }
 
 /// Positions of the trace `J` that no other claim has, and what the claim has seen of the trace.
@@ -75,7 +75,7 @@ pub struct Claim<E, J: TraceName> {
 }
 
 impl<E, J: TraceName> Model for Claim<E, J> {
-    ghost also_owns = { λ c. claim_owns E.row.coded J.trace_name J.positions_name c.seen c.positions };
+    ghost also_owns = { λ c. claim_owns E.row.coded.code J.trace_name J.positions_name c.seen c.positions };
 }
 
 impl UnopenedTrace {

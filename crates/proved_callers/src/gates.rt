@@ -12,7 +12,7 @@ use flume_calls::calls::{
 use flume_calls::due::Bell;
 use flume_calls::gates::{RecvGate, SendGate, recv_over, send_over};
 use flume_calls::locked::Locked;
-use flume_calls::single::SingleStep;
+use flume_calls::single::EndStep;
 use flume_core::error::{RecvTimeoutError, SendTimeoutError};
 use flume_model::step::Kind;
 use std::alloc::Allocator;
@@ -65,7 +65,7 @@ impl<T: Drop, A: Allocator + Copy> LocalGate<T, A> {
         match self.other.take() {
             None => return true,
             Some(Other::DropSender) => {
-                self.locked.make(SingleStep::DropSender, &mut self.bell);
+                self.locked.make(EndStep::DropSender, &mut self.bell);
             }
             Some(Other::TryRecv) => {
                 if let RecvNext::Done(Ok(message)) = self

@@ -1,7 +1,7 @@
 //! The turns of a receive.
 ghost use Rattle.std.specs.Prelude.{◌≡◌};
 ghost use Rattle.flume_calls.specs.Turns.{Turned};
-ghost use Rattle.flume_calls.specs.Batches.{by_step};
+ghost use Rattle.flume_calls.specs.Batches.{IsOneStep, by_step};
 ghost use Rattle.flume_calls.specs.ReceiveTurns.{IsFirstAnswer, IsParkingAnswer, IsParkedAnswer};
 ghost use Rattle.flume_calls.specs.ReceiveTurns.{HadMemory};
 ghost use Rattle.flume_calls.specs.ReceiveTurns.{after_try_recv, after_recv, after_parked_receive};
@@ -125,6 +125,8 @@ impl<T: Drop, S: Drop, A: Allocator + Copy> Turn<T, S, A> for FirstReceive {
     ghost does = { λ _ old new next. Turned {A = A} TryRecv after_try_recv old new next
         × FirstReceiveOutcome old new next };
 
+    ghost makes = { λ _. IsOneStep TryRecv after_try_recv };
+
     ghost leads = { λ _ old new next does. by_step does.0 };
 
     ghost answers = { λ _ next. IsFirstAnswer next × HadMemory next };
@@ -154,6 +156,8 @@ impl<T: Drop, S: Drop, A: Allocator + Copy> Turn<T, S, A> for ParkReceive<S> {
 
     ghost does = { λ turn old new next. Turned {A = A} (Recv turn.kind) after_recv old new next
         × ParkReceiveOutcome turn.kind turn.signal old new next };
+
+    ghost makes = { λ turn. IsOneStep (Recv turn.kind) after_recv };
 
     ghost leads = { λ _ old new next does. by_step does.0 };
 
@@ -185,6 +189,9 @@ impl<T: Drop, S: Drop, A: Allocator + Copy> Turn<T, S, A> for AgainReceive<S> {
         Turned {A = A} (step_of_parked_receive turn.call turn.last)
         (after_parked_receive turn.call turn.last) old new next
         × AgainReceiveOutcome turn.call turn.last turn.signal old new next };
+
+    ghost makes = { λ turn. IsOneStep (step_of_parked_receive turn.call turn.last)
+        (after_parked_receive turn.call turn.last) };
 
     ghost leads = { λ _ old new next does. by_step does.0 };
 

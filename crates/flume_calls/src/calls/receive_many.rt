@@ -5,9 +5,9 @@ ghost use Rattle.flume_state.specs.State.{message_count};
 ghost use Rattle.flume_calls.specs.ManyReceives.{Takes, TakesAll, AnswersMore, IsAtMost};
 ghost use Rattle.flume_calls.specs.ManyReceives.{BatchTakes};
 ghost use Rattle.flume_calls.specs.ManyReceives.{FirstManyTable, TurnAndMore, given_by, with_more};
-ghost use Rattle.flume_calls.specs.ManyReceives.{FirstManyOutcome};
+ghost use Rattle.flume_calls.specs.ManyReceives.{FirstManyOutcome, MakesMore, makes_more};
 ghost use Rattle.flume_calls.specs.ReceiveTurns as receive;
-ghost use Rattle.flume_calls.specs.Batches.{IsBatch, join_steps, by_steps};
+ghost use Rattle.flume_calls.specs.Batches.{IsBatch};
 
 use super::receive::RecvNext;
 use crate::turn::Turn;
@@ -38,7 +38,10 @@ impl<T: Drop, S: Drop, A: Allocator + Copy> Turn<T, S, A> for FirstReceiveMany<T
         FirstManyTable turn.buffer.items made answer.buffer.items answer.next) old new answer
         × FirstManyOutcome turn.buffer turn.most old new answer.next };
 
-    ghost leads = { λ _ old new answer does. by_steps does.0 };
+    ghost makes = { λ turn made answer.
+        FirstManyTable turn.buffer.items made answer.buffer.items answer.next };
+
+    ghost leads = { λ _ old new answer does. does.0 };
 
     ghost answers = { λ turn answer.
         receive.IsFirstAnswer answer.next × IsAtMost turn.most answer.next };
@@ -78,7 +81,10 @@ impl<T: Drop, S: Drop, A: Allocator + Copy> Turn<T, S, A> for MoreReceives<T, A>
         BatchTakes turn.buffer.items made answer.0.items answer.1) old new answer
         × TakesAll turn.most (message_count old) answer.1 answer.0 };
 
-    ghost leads = { λ _ old new answer does. by_steps does.0 };
+    ghost makes = { λ turn made answer.
+        BatchTakes turn.buffer.items made answer.0.items answer.1 };
+
+    ghost leads = { λ _ old new answer does. does.0 };
 
     ghost answers = { λ turn answer. (answer.1 ≤ turn.most)
         × (vec_len answer.0 ≡ vec_len turn.buffer + answer.1) };
@@ -111,8 +117,10 @@ where
     ghost does = { λ turn old new answer. TurnAndMore A (C.does turn.turn) turn.buffer turn.more
         old new answer.buffer answer.next };
 
+    ghost makes = { λ turn. MakesMore (C.makes turn.turn) turn.buffer turn.more };
+
     ghost leads = { λ turn old new answer does.
-        join_steps (C.leads turn.turn old does.between does.first does.turn).1 does.reachable };
+        makes_more does (C.leads turn.turn old does.between does.first does.turn) };
 
     ghost answers = { λ turn answer. AnswersMore (C.answers turn.turn) turn.buffer
         turn.more answer.buffer answer.next };

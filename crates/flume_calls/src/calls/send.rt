@@ -2,7 +2,7 @@
 ghost use Rattle.std.specs.Prelude.{◌≡◌, ◌↔◌, IsTrue};
 ghost use Rattle.flume_core.specs.Waiting.{IsHeldBack};
 ghost use Rattle.flume_calls.specs.Turns.{Turned};
-ghost use Rattle.flume_calls.specs.Batches.{by_step};
+ghost use Rattle.flume_calls.specs.Batches.{IsOneStep, by_step};
 ghost use Rattle.flume_calls.specs.SendTurns.{IsFirstAnswer, IsParkingAnswer, IsParkedAnswer};
 ghost use Rattle.flume_calls.specs.SendTurns.{step_of_parked_send};
 ghost use Rattle.flume_calls.specs.SendTurns.{after_try_send, after_send, after_parked_send};
@@ -134,6 +134,8 @@ impl<T: Drop, S: Drop, A: Allocator + Copy> Turn<T, S, A> for FirstSend<T> {
         Turned {A = A} (TrySend turn.message) after_try_send old new next
         × FirstSendOutcome turn.message old new next };
 
+    ghost makes = { λ turn. IsOneStep (TrySend turn.message) after_try_send };
+
     ghost leads = { λ _ old new next does. by_step does.0 };
 
     ghost answers = { λ turn. IsFirstAnswer turn.message };
@@ -165,6 +167,8 @@ impl<T: Drop, S: Drop, A: Allocator + Copy> Turn<T, S, A> for ParkSend<T, S> {
     ghost does = { λ turn old new next.
         Turned {A = A} (Send turn.message) after_send old new next
         × ParkSendOutcome A turn.message turn.signal old new next };
+
+    ghost makes = { λ turn. IsOneStep (Send turn.message) after_send };
 
     ghost leads = { λ _ old new next does. by_step does.0 };
 
@@ -198,6 +202,9 @@ impl<T: Drop, S: Drop, A: Allocator + Copy> Turn<T, S, A> for AgainSend<S> {
         Turned {A = A} (step_of_parked_send turn.call turn.last)
         (after_parked_send turn.call turn.last) old new next
         × AgainSendOutcome A turn.call turn.last turn.signal old new next };
+
+    ghost makes = { λ turn. IsOneStep (step_of_parked_send turn.call turn.last)
+        (after_parked_send turn.call turn.last) };
 
     ghost leads = { λ _ old new next does. by_step does.0 };
 

@@ -1,7 +1,7 @@
 //! The sends of a list of messages.
 ghost use Rattle.std.specs.Prelude.{◌≡◌, ◌∷◌, ◌<◌};
 ghost use Rattle.std.specs.VecDeque.{deque_len, deque_capacity};
-ghost use Rattle.flume_calls.specs.Batches.{IsBatch, by_steps};
+ghost use Rattle.flume_calls.specs.Batches.{IsBatch};
 
 use crate::turn::Turn;
 use flume_core::chan::Chan;
@@ -31,7 +31,9 @@ impl<T: Drop, S: Drop, A: Allocator + Copy> Turn<T, S, A> for SendMany<T, A> {
         IsBatch {A = A} (SendsMany turn.messages.items) old new answer
         × SendManyOutcome turn.messages.items old new answer };
 
-    ghost leads = { λ _ old new answer does. by_steps does.0 };
+    ghost makes = { λ turn. SendsMany turn.messages.items };
+
+    ghost leads = { λ _ old new answer does. does.0 };
 
     ghost answers = { λ turn. LeavesRest turn.messages.items };
 

@@ -9,7 +9,7 @@ pub send : (E J : RattleType) (g : Ghosts J.Denot) → IsSend (the_row E J g)
 send E J g = record {
   owned = λ d vs. (
     (λ vss. (tt, ((λ uss. (tt, tt)), tt))),
-    claim_keyless E.coded g.trace_name g.positions_name d.seen d.positions,
+    claim_keyless E.coded.code g.trace_name g.positions_name d.seen d.positions,
   );
   leaving = λ k f vs. tt;
 }

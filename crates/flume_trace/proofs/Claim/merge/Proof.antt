@@ -53,7 +53,7 @@ merge_spec 𝓤 𝓛 𝓜 𝓡 wired E J _ _ g d _ =
     move ! (1 ∷ []) $ fsplit ! $ move ! (1 ∷ 6 ∷ []) $
     use2 𝓛 (some (λ (seen : List (List E.Denot)).
     given (change.BothShown 𝓛 cv g.trace_name g.positions_name me.seen other.seen all seen)
-    (‵ (claim_owns cv g.trace_name g.positions_name seen all))))
+    (‵ (claim_owns cv.code g.trace_name g.positions_name seen all))))
     (change.are_merged 𝓛 cv g.trace_name g.positions_name me.seen other.seen
     me.positions other.positions) $
     pick ! (λ seen. learn ! (λ shown.

@@ -44,8 +44,8 @@ split_off_spec 𝓤 𝓛 𝓜 𝓡 wired E J _ _ g d _ =
     enter ! _ _ _ _ _ $ alloc_all ! (λ l. pass_all ! refl ((tt, tt), tt) $
     opens ! tt R a.0.ref_ptr.0 a.0.ref_ptr.1 (λ vs.
     move ! (1 ∷ []) $ fsplit ! $ move ! (1 ∷ []) $
-    use1 𝓛 (‵ (claim_owns cv g.trace_name g.positions_name me.seen me.positions)
-    ⊛ ‵ (claim_owns cv g.trace_name g.positions_name me.seen []))
+    use1 𝓛 (‵ (claim_owns cv.code g.trace_name g.positions_name me.seen me.positions)
+    ⊛ ‵ (claim_owns cv.code g.trace_name g.positions_name me.seen []))
     (change.is_split 𝓛 cv g.trace_name g.positions_name me.seen me.positions) $ split ! $
     move ! (2 ∷ 0 ∷ []) $ fjoin ! $
     move ! (2 ∷ 0 ∷ 3 ∷ 4 ∷ 5 ∷ []) $ closes ! tt R me vs a.0.ref_ptr.0 a.0.ref_ptr.1 $

@@ -80,7 +80,7 @@ append_spec 𝓤 𝓛 𝓜 𝓡 wired E J V N _ _ _ _ g d gn dn _ _ =
     move ! (1 ∷ []) $ fsplit ! $ move ! (7 ∷ []) $ fsplit ! $ move ! (1 ∷ 3 ∷ []) $
     -- [what the trace owns; what the claim owns; their fields; their cells]
     use2 𝓛 (later (given (change.Shown 𝓛 cv γ δ trace.writes claim.seen claim.positions)
-    (‵ (trace_owns cv γ δ all) ⊛ ‵ (claim_owns cv γ δ all new))))
+    (‵ (trace_owns cv.code γ δ all) ⊛ ‵ (claim_owns cv.code γ δ all new))))
     (change.are_appended 𝓛 cv γ δ trace.writes more claim.seen claim.positions) $
     await ! tt $ learn ! (λ shown. split ! $
     move ! (2 ∷ 0 ∷ []) $ fjoin ! $ move ! (2 ∷ 1 ∷ []) $ fjoin ! $

@@ -53,8 +53,8 @@ open_spec 𝓤 𝓛 𝓜 𝓡 wired E J _ _ g d _ =
     move ! (1 ∷ []) $ fsplit ! $ fsplit ! $ keep ! (1 ∷ 3 ∷ []) $
     enter ! _ _ _ _ _ $ alloc_all ! (λ l. pass_all ! refl ((tt, (tt, tt)), tt) $
     rewrite ! 0 (λ (z : ℕ × ℕ). ‵ (unopened_owns z.0 z.1)) (λ i. (names.0 i, names.1 i)) refl $
-    use1 𝓛 (‵ (trace_owns cv g.trace_name g.positions_name [])
-    ⊛ ‵ (claim_owns cv g.trace_name g.positions_name [] []))
+    use1 𝓛 (‵ (trace_owns cv.code g.trace_name g.positions_name [])
+    ⊛ ‵ (claim_owns cv.code g.trace_name g.positions_name [] []))
     (change.is_opened 𝓛 cv g.trace_name g.positions_name) $ split ! $
     -- the code makes the trace, then the claim, then the pair
     sets ! (agg ! (no_more !)) refl (tt, tt) $

@@ -11,9 +11,9 @@ invariant_of-self g c =
     record {
       reachable = (
         reachable.0,
-        log_after reachable.1 made.0,
+        log_after reachable.1 made.made,
         c.fire_due.ensures.represents reachable.0 _
-            (led_log made.1 reachable.0 reachable.1 reachable.2),
+            (led_log made.reachable reachable.0 reachable.1 reachable.2),
       );
       sends = c.fire_due.ensures.sends;
       receivers = c.fire_due.ensures.receivers;
@@ -30,4 +30,4 @@ returns-clause-call g c = rw (← c.self.view_is) (record {
 pub returns-clause-each_is_rung : goal.returns-clause-each_is_rung
 returns-clause-each_is_rung g c =
     let made = g.C.Turn.leads c.args.turn _ _ _ c.apply-answer.ensures.does in
-    rw (← c.self.view_is) (each_rung g.B.Bell.rings c.self.invariant.reachable made.1 c.fire_due.ensures.rings)
+    rw (← c.self.view_is) (each_rung g.B.Bell.rings c.self.invariant.reachable made.reachable c.fire_due.ensures.rings)

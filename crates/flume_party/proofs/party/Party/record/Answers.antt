@@ -1,4 +1,4 @@
-use Rattle.std.proofs.Common.{ℕ, List, [], ◌∷◌, refl, sym, subst}
+use Rattle.std.proofs.Common.{ℕ, ◌<◌, List, [], ◌∷◌, refl, sym, subst}
 use Rattle.flume_party.specs.Owners.{AreCounted}
 use Rattle.flume_party.specs.Parties.{party_of}
 use Rattle.flume_party.specs.Picks.{Matches}
@@ -18,9 +18,11 @@ invariant_of-self g c =
     let own = g.O.Ownership.is_owned in
     let claim = c.self.inside.claim in
     let after = wrote own _ _ _ _ claim.seen _ claim.positions _ e.allowed.0 e e.allowed.3
-    c.self.invariant e.allowed.2 in
-    subst (λ amount. Matches own amount c.append.new.claim.seen c.append.new.claim.positions)
-    (sym c.add.ensures.amount) after.keeps
+    c.self.invariant.did e.allowed.2 in record {
+      some = subst (λ parts. 0 < parts) (sym c.add.ensures.parts) c.self.invariant.some;
+      did = subst (λ amount. Matches own amount c.append.new.claim.seen c.append.new.claim.positions)
+          (sym c.add.ensures.amount) after.keeps;
+    }
 
 pub invariant_of-trace : goal.invariant_of-trace
 invariant_of-trace g c =
@@ -36,7 +38,7 @@ returns g c =
     let e = c.append.ensures.appended in
     let claim = c.self.inside.claim in
     let after = wrote g.O.Ownership.is_owned _ _ _ _ claim.seen _ claim.positions _ e.allowed.0 e
-    e.allowed.3 c.self.invariant e.allowed.2 in
+    e.allowed.3 c.self.invariant.did e.allowed.2 in
     rw (← c.trace.view_is, ← c.self.view_is) (record {
       recorded = record {
         actions = e.allowed.0;
