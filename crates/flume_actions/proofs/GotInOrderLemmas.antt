@@ -1,0 +1,166 @@
+-- What parties got is what was handed out, in its order.
+use Rattle.std.proofs.Common.{◌≡◌, ℕ, zero, suc, Bool, false, List, [], ◌∷◌, ◌++◌, length, take}
+use Rattle.std.proofs.Common.{drop}
+use Rattle.std.proofs.Common.{Option, Some, None, refl, ap, sym, subst, ◌∙◌, arith, filter}
+use Rattle.std.proofs.lemmas.List.{append-nil, append_assoc, take-append-drop}
+use Rattle.std.proofs.lemmas.Grind.{common_steps, flat_map-append}
+use Rattle.std.specs.Prelude.{reverse}
+use Rattle.std.specs.List.{flat_map, slice_get}
+use mathlib.Core.List.{reverse_aux}
+use Rattle.flume_model.specs.Log.{Log, Opening, Offer, HandOut, Shown, FilledIn, change}
+use Rattle.flume_model.specs.Offers.{hands_out, handed_out, hand_outs, kept}
+use Rattle.flume_model.specs.Counts.{is_over}
+use Rattle.flume_model.specs.Line.{messages, line}
+use Rattle.flume_model.specs.Entries.{entry_of, held_by}
+use Rattle.flume_model.specs.Fills.{FillIs, IsHandOutOf, shown}
+use Rattle.flume_model.specs.Parked.{entries}
+use Rattle.flume_model.specs.Replies.{IsRun}
+use Rattle.flume_model.proofs.fills.FillsOrderLemmas.{in_order}
+use Rattle.flume_model.proofs.order.KeptLemmas.{line_is_open}
+use Rattle.flume_actions.specs.Actions.{Action, is_of_party}
+use Rattle.flume_actions.specs.Together.{Interleaved, EachAreCalls, NoParty, AndParty}
+use Rattle.flume_actions.proofs.GotMemberLemmas.{Member, actions_of, parked_under}
+use Rattle.flume_actions.proofs.GotDueLemmas.{AreDue}
+use Rattle.flume_actions.proofs.GotEntryLemmas.{stands, held_stands}
+use Rattle.flume_actions.proofs.GotEffectLemmas.{as_list, final}
+use Rattle.flume_actions.proofs.GotRunLemmas.{to_come, outcome}
+use Rattle.flume_actions.proofs.GotCallLemmas.{calls_course}
+
+-- what none are left of is all
+taken_all : {X : Type 0} (n : ℕ) (xs : List X) → drop n xs ≡ [] → take n xs ≡ xs
+taken_all n xs none =
+    sym (append-nil (take n xs))
+    ∙ (ap (λ list. take n xs ++ list) (sym none) ∙ take-append-drop n xs)
+
+module _ {T : Type 0} where
+  -- if each hand-out is of the offer at its place, their messages are those of the first offers
+  placed_messages : (seen : ℕ → Option T) (given : List (HandOut T)) (some : List (Offer T))
+      → ((j : ℕ) (g : HandOut T) → slice_get given j ≡ Some g
+      → (offer : Offer T) × (slice_get some j ≡ Some offer) × (final seen g ≡ offer.message ∷ []))
+      → flat_map (final seen) given ≡ messages (take (length given) some)
+  placed_messages seen [] some each = refl
+  placed_messages seen (g ∷ given) [] each =
+      let first = each zero g refl in
+      let there = first.1 in
+      absurd (let none : ⊥ = cc in none)
+  placed_messages seen (g ∷ given) (x ∷ some) each =
+      let first = each zero g refl in
+      let there = first.1 in
+      let same : x ≡ first.0 = cc in
+      let one : final seen g ≡ x.message ∷ [] =
+      first.2 ∙ ap (λ offer. offer.message ∷ []) (sym same) in
+      ap (λ list. list ++ flat_map (final seen) given) one
+      ∙ ap (λ list. x.message ∷ list) (placed_messages seen given some (λ j g e. each (suc j) g e))
+
+  -- a fill is of what was shown, if no receiver holds a message
+  fill_shown : (over : Bool) (got held : Option T) (m : T) → over ≡ false
+      → (held ≡ Some m → ⊥) → FillIs over got held m → as_list got ≡ m ∷ []
+  fill_shown over got held m open_ none is = grind (arith, common_steps)
+
+module _ {T A : Type 0} where
+  final_is : (o : Opening) (log : Log T A) (g : HandOut T) (m : T) → is_over log ≡ false
+      → ((t : ℕ) → stands t (entries o log) ≡ 0) → IsHandOutOf (entries o log) log g m
+      → final (shown log) g ≡ m ∷ []
+  final_is o log (Shown given) m open_ nobody is = ap (λ x. x ∷ []) is
+  final_is o log (FilledIn t) m open_ nobody is =
+      fill_shown (is_over log) (shown log t) (held_by (entry_of t (entries o log))) m open_
+      (λ held. omega (arith, nobody t, held_stands t m (entries o log) held)) is
+
+  -- what was handed out and what is to come
+  all_to_come : (seen : ℕ → Option T) (rest : List (Action T A)) (past : Log T A)
+      → flat_map (final seen) (handed_out past) ++ to_come seen past rest
+      ≡ flat_map (final seen) (handed_out (reverse_aux rest past))
+  all_to_come seen [] past = append-nil (flat_map (final seen) (handed_out past))
+  all_to_come seen (p ∷ rest) past =
+      let now = hands_out (change past p.0 p.1) in
+      let all = flat_map-append (final seen) (handed_out past) now in
+      sym (append_assoc (flat_map (final seen) (handed_out past)) (flat_map (final seen) now)
+      (to_come seen (p ∷ past) rest))
+      ∙ (ap (λ list. list ++ to_come seen (p ∷ past) rest) (sym all)
+      ∙ all_to_come seen rest (p ∷ past))
+
+  -- parties at the start
+  record Start (parties : List (List (Action T A))) (gots : List (List T)) : Type 0 where
+    pub members : List (Member T A)
+    pub actions_are : actions_of members ≡ parties
+    pub unparked : (t : ℕ) → parked_under t members ≡ 0
+    pub gots_are : (held : Option ℕ → List T) → held None ≡ [] → (dues : List (List T))
+        → AreDue held members dues → dues ≡ gots
+
+  one_due : (m : Member T A) (members : List (Member T A)) (got : List T) (gots : List (List T))
+      → m.parked ≡ None → m.got ≡ got
+      → ((held : Option ℕ → List T) → held None ≡ [] → (dues : List (List T))
+      → AreDue held members dues → dues ≡ gots)
+      → (held : Option ℕ → List T) → held None ≡ [] → (dues : List (List T))
+      → AreDue held (m ∷ members) dues → dues ≡ got ∷ gots
+  one_due m members got gots none is deeper held empty [] each = absurd each
+  one_due m members got gots none is deeper held empty (due ∷ dues) each =
+      let same : due ≡ got =
+      sym (each.0 ∙ ap (λ list. list ++ due) (ap held none ∙ empty)) ∙ is in
+      let others = deeper held empty dues each.1 in
+      ap (λ list. list ∷ dues) same ∙ ap (λ list. got ∷ list) others
+
+  starts : (parties : List (List (Action T A))) (sents gots : List (List T))
+      → EachAreCalls parties sents gots → Start parties gots
+  starts _ _ _ NoParty = record {
+    members = [];
+    actions_are = refl;
+    unparked = λ t. refl;
+    gots_are = no_dues;
+  }
+    where
+      no_dues : (held : Option ℕ → List T) → held None ≡ [] → (dues : List (List T))
+          → AreDue {A = A} held [] dues → dues ≡ []
+      no_dues held empty [] each = refl
+      no_dues held empty (due ∷ dues) each = absurd each
+  starts _ _ _
+      (AndParty {actions = actions} {others = others} {sent = sent} {got = got} {sents = sents}
+      {gots = gots} calls rest) =
+      let more = starts others sents gots rest in
+      let m : Member T A = record {
+        parked = None;
+        actions = actions;
+        got = got;
+        course = calls_course actions sent got calls;
+      } in
+      record {
+        members = m ∷ more.members;
+        actions_are = ap (λ list. actions ∷ list) more.actions_are;
+        unparked = λ t. omega (arith, more.unparked t);
+        gots_are = one_due m more.members got gots refl refl more.gots_are;
+      }
+
+  -- what each party got, merged, is what was handed out
+  pub got_in_order : (opening : Opening) (history : List (Action T A))
+      (parties : List (List (Action T A))) (sents gots : List (List T))
+      → IsRun opening (reverse history) → is_over (reverse history) ≡ false
+      → Interleaved parties (filter is_of_party history) → EachAreCalls parties sents gots
+      → Interleaved gots (messages (take (hand_outs (reverse history)) (kept (reverse history))))
+  got_in_order o history parties sents gots run still merged calls =
+      let s = starts parties sents gots calls in
+      let log : Log T A = reverse history in
+      let seen : ℕ → Option T = shown log in
+      let end = outcome o seen history [] s.members run still (λ t. refl) s.unparked
+      (subst (λ lists. Interleaved lists (filter is_of_party history)) (sym s.actions_are)
+      merged) in
+      let given = s.gots_are _ refl end.due.dues end.due.each in
+      let all = all_to_come seen history [] in
+      let order = in_order o log run in
+      let placed = placed_messages seen (handed_out log) (kept log)
+      (λ j g e.
+      (let at = order j g e in
+      (at.0, at.1, final_is o log g at.0.message still end.nobody at.2))) in
+      subst (λ lists. Interleaved lists (messages (take (hand_outs log) (kept log)))) given
+      (subst (Interleaved end.due.dues) (all ∙ placed) end.due.merged)
+
+  -- if nothing is left, it is all that is kept of the offers
+  pub got_all : (opening : Opening) (history : List (Action T A))
+      (parties : List (List (Action T A))) (sents gots : List (List T))
+      → IsRun opening (reverse history) → is_over (reverse history) ≡ false
+      → line (reverse history) ≡ [] → Interleaved parties (filter is_of_party history)
+      → EachAreCalls parties sents gots → Interleaved gots (messages (kept (reverse history)))
+  got_all o history parties sents gots run still none merged calls =
+      let log : Log T A = reverse history in
+      let left = sym (line_is_open log still) ∙ none in
+      subst (λ list. Interleaved gots (messages list)) (taken_all (hand_outs log) (kept log) left)
+      (got_in_order o history parties sents gots run still merged calls)

@@ -1,0 +1,195 @@
+-- What each turn of a party hands out, also of one that is parked.
+use Rattle.std.proofs.Common.{◌≡◌, ℕ, ◌≤◌, Bool, true, false, List, [], ◌∷◌, Option, Some}
+use Rattle.std.proofs.Common.{None, refl, ap, sym, subst, ◌∙◌, arith, if◌then◌else◌, eq-eqb}
+use Rattle.std.proofs.lemmas.List.{append-nil}
+use Rattle.std.proofs.lemmas.Grind.{common_steps}
+use Rattle.flume_model.specs.declared.step.Step.{Step}
+use Rattle.flume_model.specs.declared.step.Step.TheVariants.{Recv, Poll, Withdraw}
+use Rattle.flume_model.specs.declared.step.Reply.{Reply}
+use Rattle.flume_model.specs.declared.step.Reply.TheVariants.{NoMemory, NoTicket, Waiting}
+use Rattle.flume_model.specs.declared.step.Reply.TheVariants.{Parked}
+use Rattle.flume_model.specs.Log.{Log, Opening, Takes}
+use Rattle.flume_model.specs.Log.{Collects, Leaves as LeavesUnder, change, was_filled, filled_by}
+use Rattle.flume_model.specs.Fills.{shows_to}
+use Rattle.flume_model.specs.Entries.{entry_of, is_filled}
+use Rattle.flume_model.specs.Asking.{IsPollReply, IsWithdrawReply}
+use Rattle.flume_model.specs.Channel.{Channel, channel}
+use Rattle.flume_model.specs.Parked.{LogEntry, entries}
+use Rattle.flume_model.specs.Replies.{IsRun}
+use Rattle.flume_model.specs.WaitLaws.{FilledIfNamed}
+use Rattle.flume_model.proofs.AskingCaseLemmas.{polled_cases, gone_cases}
+use Rattle.flume_model.proofs.EntryShapeLemmas.{entered, filled_if_named, fits_run}
+use Rattle.flume_actions.proofs.GotTurnLemmas.{Turn, Acts, Parks, Asks, Ends, Leaves, answered}
+use Rattle.flume_actions.proofs.GotTurnLemmas.{stays_parked}
+use Rattle.flume_actions.proofs.GotMemberLemmas.{here}
+use Rattle.flume_actions.proofs.GotEntryLemmas.{stands}
+use Rattle.flume_actions.proofs.GotEffectLemmas.{in_hand, Effect, unparked}
+
+module _ {T : Type 0} where
+  -- a filled receiver collects its message
+  collected : (shown : ℕ → Option T) (was : ℕ → Bool) (t : ℕ) (m : T) → was t ≡ true
+      → shown t ≡ Some m
+      → Effect shown was (if was t then Collects t else Takes m (Some t)) None (Some t) None
+      (m ∷ [])
+  collected shown was t m is same = rw is (record {
+    own = [];
+    moves = λ u. omega arith;
+    shows = rw (is, same) refl;
+    hands = refl;
+  })
+
+  -- one that isn't takes the front
+  taken : (shown : ℕ → Option T) (was : ℕ → Bool) (t : ℕ) (m : T) → was t ≡ false
+      → Effect shown was (if was t then Collects t else Takes m (Some t)) None (Some t) None
+      (m ∷ [])
+  taken shown was t m is = rw is (record {
+    own = m ∷ [];
+    moves = λ u. omega arith;
+    shows = rw is refl;
+    hands = refl;
+  })
+
+  -- or leaves without one
+  left : (shown : ℕ → Option T) (was : ℕ → Bool) (t : ℕ) (filled : Option ℕ) → was t ≡ false
+      → Effect shown was (LeavesUnder t filled) filled (Some t) None []
+  left shown was t filled is = record {
+    own = [];
+    moves = λ u. omega arith;
+    shows = rw is refl;
+    hands = refl;
+  }
+
+  -- one that is parked doesn't hear that it isn't
+  poll_known : (A : Type 0) (c : Channel T) (e : LogEntry T)
+      → IsPollReply {A = A} c (Some e) NoTicket → ⊥
+  poll_known A c e h = grind (arith, common_steps)
+
+  withdraw_known : (A : Type 0) (c : Channel T) (t : ℕ) (e : LogEntry T)
+      → IsWithdrawReply {A = A} c t (Some e) NoTicket → ⊥
+  withdraw_known A c t e h = grind (arith, common_steps)
+
+  -- the entry of a ticket that stands
+  found_of : (t : ℕ) (es : List (LogEntry T)) → here t (Some t) ≤ stands t es
+      → (e : LogEntry T) × (entry_of t es ≡ Some e)
+  found_of t es le = by_found (entry_of t es) refl
+    where
+      by_found : (found : Option (LogEntry T)) → entry_of t es ≡ found
+          → (e : LogEntry T) × (entry_of t es ≡ Some e)
+      by_found (Some e) is = (e, is)
+      by_found None is = absurd (grind (arith, le, is, eq-eqb t t refl))
+
+module _ {T A : Type 0} where
+  -- a receiver asks and stays parked
+  asks : (past : Log T A) (shown : ℕ → Option T) (t : ℕ) (reply : Reply T A)
+      → stays_parked reply ≡ true
+      → Effect shown (was_filled past) (change past (Poll t) reply) (filled_by reply) (Some t)
+      (Some t) []
+  asks past shown t Waiting is = record {
+    own = [];
+    moves = λ u. refl;
+    shows = sym (append-nil (in_hand shown (was_filled past) (Some t)));
+    hands = refl;
+  }
+  asks past shown t (NoMemory back) is = record {
+    own = [];
+    moves = λ u. refl;
+    shows = sym (append-nil (in_hand shown (was_filled past) (Some t)));
+    hands = refl;
+  }
+  asks past shown t _ is = absurd (let none : ⊥ = cc in none)
+
+  -- it asks and is parked no more
+  ends : (o : Opening) (past : Log T A) (shown : ℕ → Option T) (t : ℕ) (reply : Reply T A)
+      (e : LogEntry T) → IsRun o ((Poll t, reply) ∷ past) → entry_of t (entries o past) ≡ Some e
+      → ((m : T) → shows_to t (Poll t) reply ≡ Some m → shown t ≡ Some m)
+      → stays_parked reply ≡ false
+      → Effect shown (was_filled past) (change past (Poll t) reply) (filled_by reply) (Some t) None
+      (answered reply)
+  ends o past shown t reply e run found same ended =
+      polled_cases (channel o past) t P reply run.0 (record {
+        unknown = λ not h s. absurd (not refl);
+        collects = λ e held found is not h s.
+            collected shown (was_filled past) t held (named t e found ∙ ap is_filled is)
+            (s held (ap (λ b. if b then Some held else None) (eq-eqb t t refl)));
+        takes = λ u m front not h s.
+            taken shown (was_filled past) t m (named t u.entry u.found ∙ u.empty);
+        waits_on = λ u woken not h s. absurd (let none : ⊥ = cc in none);
+        ends = λ u empty not h s.
+            left shown (was_filled past) t None (named t u.entry u.found ∙ u.empty);
+        refused = λ back not h s. absurd (let none : ⊥ = cc in none);
+      }) not_unknown ended same
+    where
+      named : FilledIfNamed o past
+      named = filled_if_named o past run.1
+
+      P : Reply T A → Type 0
+      P r = (r ≡ NoTicket → ⊥) → stays_parked r ≡ false
+          → ((m : T) → shows_to t (Poll t) r ≡ Some m → shown t ≡ Some m)
+          → Effect shown (was_filled past) (change past (Poll t) r) (filled_by r) (Some t) None
+          (answered r)
+
+      not_unknown : reply ≡ NoTicket → ⊥
+      not_unknown is = poll_known A (channel o past) e
+          (subst (IsPollReply (channel o past) (Some e)) is
+          (subst (λ f. IsPollReply (channel o past) f reply) found run.0))
+
+  -- it withdraws
+  leaves : (o : Opening) (past : Log T A) (shown : ℕ → Option T) (t : ℕ) (reply : Reply T A)
+      (e : LogEntry T) → IsRun o ((Withdraw t, reply) ∷ past) → entry_of t (entries o past) ≡ Some e
+      → ((m : T) → shows_to t (Withdraw t) reply ≡ Some m → shown t ≡ Some m)
+      → Effect shown (was_filled past) (change past (Withdraw t) reply) (filled_by reply) (Some t)
+      None (answered reply)
+  leaves o past shown t reply e run found same =
+      gone_cases (channel o past) t P reply run.0 (record {
+        unknown = λ not s. absurd (not refl);
+        collects = λ e held found is not s.
+            collected shown (was_filled past) t held (named t e found ∙ ap is_filled is)
+            (s held (ap (λ b. if b then Some held else None) (eq-eqb t t refl)));
+        takes = λ u m front not s.
+            taken shown (was_filled past) t m (named t u.entry u.found ∙ u.empty);
+        fills_none = λ u closed empty not s.
+            left shown (was_filled past) t None (named t u.entry u.found ∙ u.empty);
+        passes_on = λ u closed not s.
+            left shown (was_filled past) t _ (named t u.entry u.found ∙ u.empty);
+      }) not_unknown same
+    where
+      named : FilledIfNamed o past
+      named = filled_if_named o past run.1
+
+      P : Reply T A → Type 0
+      P r = (r ≡ NoTicket → ⊥)
+          → ((m : T) → shows_to t (Withdraw t) r ≡ Some m → shown t ≡ Some m)
+          → Effect shown (was_filled past) (change past (Withdraw t) r) (filled_by r) (Some t) None
+          (answered r)
+
+      not_unknown : reply ≡ NoTicket → ⊥
+      not_unknown is = withdraw_known A (channel o past) t e
+          (subst (IsWithdrawReply (channel o past) t (Some e)) is
+          (subst (λ f. IsWithdrawReply (channel o past) t f reply) found run.0))
+
+  -- each turn of a party
+  pub effect : (o : Opening) (past : Log T A) (shown : ℕ → Option T) (step : Step T)
+      (reply : Reply T A) (parked after : Option ℕ) (now : List T)
+      → Turn parked step reply after now → IsRun o ((step, reply) ∷ past)
+      → ((t : ℕ) → here t parked ≤ stands t (entries o past))
+      → ((t : ℕ) (m : T) → shows_to t step reply ≡ Some m → shown t ≡ Some m)
+      → Effect shown (was_filled past) (change past step reply) (filled_by reply) parked after now
+  effect o past shown step reply _ _ _ (Acts is) run stood same =
+      unparked o past shown step reply run.0 is
+  effect o past shown _ _ _ _ _ (Parks {kind = kind} {ticket = t}) run stood same =
+      let fit = fits_run o past (Recv kind, Parked t) run in
+      let unfilled = (entered o past run.1).unfilled t (omega (arith, fit.3)) in
+      record {
+        own = [];
+        moves = λ u. omega arith;
+        shows = rw unfilled refl;
+        hands = refl;
+      }
+  effect o past shown _ reply _ _ _ (Asks {ticket = t} is) run stood same =
+      asks past shown t reply is
+  effect o past shown _ reply _ _ _ (Ends {ticket = t} is) run stood same =
+      let found = found_of t (entries o past) (stood t) in
+      ends o past shown t reply found.0 run found.1 (same t) is
+  effect o past shown _ reply _ _ _ (Leaves {ticket = t}) run stood same =
+      let found = found_of t (entries o past) (stood t) in
+      leaves o past shown t reply found.0 run found.1 (same t)

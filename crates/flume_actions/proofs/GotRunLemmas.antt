@@ -1,0 +1,203 @@
+-- What is handed out from a moment of a run on is what its parties are still due.
+use Rattle.std.proofs.Common.{◌≡◌, ℕ, ◌||◌, Bool, true, false, List, [], ◌∷◌, ◌++◌, Option, Some}
+use Rattle.std.proofs.Common.{None, refl, ap, sym, subst, ◌∙◌, arith}
+use Rattle.std.proofs.Common.{filter}
+use Rattle.std.proofs.lemmas.List.{append-nil, append_assoc}
+use Rattle.std.proofs.lemmas.Grind.{common_steps}
+use Rattle.std.specs.List.{flat_map}
+use mathlib.Core.List.{reverse_aux}
+use Rattle.flume_model.specs.Log.{Log, Opening, Change, is_ticket, change, was_filled, filled_by}
+use Rattle.flume_model.specs.Offers.{hands_out, fill}
+use Rattle.flume_model.specs.Counts.{is_over}
+use Rattle.flume_model.specs.Fills.{shows_to, shown}
+use Rattle.flume_model.specs.Channel.{Channel, channel}
+use Rattle.flume_model.specs.Parked.{entries}
+use Rattle.flume_model.specs.Replies.{IsRun}
+use Rattle.flume_model.proofs.EntryChangeLemmas.{fills}
+use Rattle.flume_model.proofs.EntryShapeLemmas.{filled_if_named, entries_apart}
+use Rattle.flume_model.proofs.fills.FillsKeptLemmas.{filled_holds, filled_stood}
+use Rattle.flume_model.proofs.waits.WaitingStepLemmas.{stepped}
+use Rattle.flume_actions.specs.Actions.{Action, is_of_party}
+use Rattle.flume_actions.specs.Together.{Interleaved}
+use Rattle.flume_actions.proofs.GotTurnLemmas.{Course, gets, is_unparked}
+use Rattle.flume_actions.proofs.GotMemberLemmas.{Member, actions_of, parked_under, parked_else}
+use Rattle.flume_actions.proofs.GotMemberLemmas.{parked_one, Next, next}
+use Rattle.flume_actions.proofs.GotDueLemmas.{Due, due_more, due_filled, due_none}
+use Rattle.flume_actions.proofs.GotEntryLemmas.{stands, stands_by, held_stands}
+use Rattle.flume_actions.proofs.GotEntryLemmas.{filled_was_empty}
+use Rattle.flume_actions.proofs.GotEffectLemmas.{as_list, final, in_hand, named_is_filled}
+use Rattle.flume_actions.proofs.GotEffectLemmas.{unparked}
+use Rattle.flume_actions.proofs.GotParkedLemmas.{effect}
+use Rattle.flume_actions.proofs.GotShownLemmas.{in_hand_else, in_hand_filled, run_before}
+use Rattle.flume_actions.proofs.GotShownLemmas.{open_before}
+use Rattle.flume_actions.proofs.GotShownLemmas.{shown_now}
+
+module _ {T A : Type 0} where
+  -- the messages that are handed out from a moment on
+  abbrev pub to_come : (ℕ → Option T) → Log T A → List (Action T A) → List T
+  to_come shown past [] = []
+  to_come shown past (p ∷ rest) =
+      flat_map (final shown) (hands_out (change past p.0 p.1)) ++ to_come shown (p ∷ past) rest
+
+  -- as many parties are parked under each ticket as entries have it
+  abbrev pub Agree : Opening → Log T A → List (Member T A) → Type 0
+  Agree o past members = (t : ℕ) → parked_under t members ≡ stands t (entries o past)
+
+  -- they are what the parties are due, and in the end none is parked
+  pub record Outcome (o : Opening) (seen : ℕ → Option T) (past : Log T A)
+      (rest : List (Action T A)) (members : List (Member T A)) : Type 0 where
+    pub due : Due (in_hand seen (was_filled past)) members (to_come seen past rest)
+    pub nobody : (t : ℕ) → stands t (entries o (reverse_aux rest past)) ≡ 0
+
+  -- what was handed to parties before a step that filled one of them
+  before_fill : (o : Opening) (seen : ℕ → Option T) (past : Log T A) (p : Action T A)
+      (members : List (Member T A)) (line : List T) → IsRun o (p ∷ past)
+      → is_over (p ∷ past) ≡ false → Agree o (p ∷ past) members
+      → Due (in_hand seen (was_filled (p ∷ past))) members line
+      → Due (in_hand seen (was_filled past)) members
+      (flat_map (final seen) (fill (filled_by p.1)) ++ line)
+  before_fill o seen past p members line run still agree d = by_fill (filled_by p.1) refl d
+    where
+      by_fill : (f : Option ℕ) → filled_by p.1 ≡ f
+          → Due (in_hand seen (λ t. is_ticket t f || was_filled past t)) members line
+          → Due (in_hand seen (was_filled past)) members (flat_map (final seen) (fill f) ++ line)
+      by_fill None is d = d
+      by_fill (Some t) is d =
+          let done : Change T = change past p.0 p.1 in
+          let c : Channel T = channel o past in
+          let s = stepped o past p run still in
+          let apart = entries_apart o past run.1 in
+          let named : fills done ≡ Some t = sym (named_is_filled o past p.0 p.1 run.0) ∙ is in
+          let holds = filled_holds c s.closes done t s.fit apart named in
+          let stood = filled_stood c done t s.fit named in
+          let empty = filled_if_named o past run.1 t stood.0 stood.1
+          ∙ filled_was_empty c done t stood.0 s.fit apart named stood.1 in
+          let one : parked_under t members ≡ 1 =
+          agree t ∙ (ap (stands t) s.entries_are ∙ held_stands t holds.0 _ holds.3) in
+          rw (append-nil (as_list (seen t)))
+          (due_filled t (in_hand seen (was_filled past))
+          (in_hand seen (λ u. is_ticket u (Some t) || was_filled past u)) (as_list (seen t)) members
+          line (in_hand_else seen (was_filled past) t)
+          (λ parked same. in_hand_filled seen (was_filled past) t parked empty same) one d)
+
+  -- a step that is one party's
+  owned : (o : Opening) (seen : ℕ → Option T) (past : Log T A) (p : Action T A)
+      (rest later : List (Action T A)) (before after : List (Member T A)) (m : Member T A)
+      → IsRun o (p ∷ past) → is_over (p ∷ past) ≡ false
+      → ((t : ℕ) (x : T) → shows_to t p.0 p.1 ≡ Some x → seen t ≡ Some x)
+      → Agree o past (before ++ m ∷ after) → Course (p ∷ later) m.parked m.got
+      → ((n : Member T A) → n.actions ≡ later → Agree o (p ∷ past) (before ++ n ∷ after)
+      → Outcome o seen (p ∷ past) rest (before ++ n ∷ after))
+      → Outcome o seen past (p ∷ rest) (before ++ m ∷ after)
+  owned o seen past p rest later before after m run still shows agree course deeper =
+      let n : Member T A = record {
+        parked = course.0;
+        actions = later;
+        got = course.2;
+        course = course.5;
+      } in
+      let s = stepped o past p run still in
+      let e = effect o past seen p.0 p.1 m.parked course.0 course.1 course.3 run
+      (λ t. omega (arith, agree t, parked_one t before after m)) shows in
+      let stand = λ (t : ℕ). stands_by (channel o past) s.closes (change past p.0 p.1) t s.fit
+      (entries_apart o past run.1) in
+      let agrees : Agree o (p ∷ past) (before ++ n ∷ after) = λ t. omega (
+        arith,
+        agree t,
+        parked_else t before after m n,
+        stand t,
+        ap (stands t) s.entries_are,
+        e.moves t,
+      ) in
+      let rest_of = deeper n refl agrees in
+      let line : List T = to_come seen (p ∷ past) rest in
+      let filled : List T = flat_map (final seen) (fill (filled_by p.1)) in
+      let d = due_more (in_hand seen (was_filled past)) before after m n course.1 e.own
+      (filled ++ line) course.4 e.shows
+      (before_fill o seen past p (before ++ n ∷ after) line run still agrees rest_of.due) in
+      record {
+        due = subst (Due (in_hand seen (was_filled past)) (before ++ m ∷ after))
+            (sym (append_assoc e.own filled line) ∙ ap (λ list. list ++ line) (sym e.hands)) d;
+        nobody = rest_of.nobody;
+      }
+
+  free_unparked : (p : Action T A) → is_of_party p ≡ false → is_unparked p.0 p.1 ≡ true
+  free_unparked p free = grind (arith, common_steps)
+
+  free_gets : (p : Action T A) → is_of_party p ≡ false → gets p.0 p.1 ≡ []
+  free_gets p free = grind (arith, common_steps)
+
+  -- a step that may be anybody's
+  unowned : (o : Opening) (seen : ℕ → Option T) (past : Log T A) (p : Action T A)
+      (rest : List (Action T A)) (members : List (Member T A)) → IsRun o (p ∷ past)
+      → is_over (p ∷ past) ≡ false → is_of_party p ≡ false → Agree o past members
+      → (Agree o (p ∷ past) members → Outcome o seen (p ∷ past) rest members)
+      → Outcome o seen past (p ∷ rest) members
+  unowned o seen past p rest members run still free agree deeper =
+      let s = stepped o past p run still in
+      let e = unparked o past seen p.0 p.1 run.0 (free_unparked p free) in
+      let none : e.own ≡ [] = sym e.shows ∙ (append-nil (gets p.0 p.1) ∙ free_gets p free) in
+      let stand = λ (t : ℕ). stands_by (channel o past) s.closes (change past p.0 p.1) t s.fit
+      (entries_apart o past run.1) in
+      let agrees : Agree o (p ∷ past) members = λ t. omega (
+        arith,
+        agree t,
+        stand t,
+        ap (stands t) s.entries_are,
+        e.moves t,
+      ) in
+      let rest_of = deeper agrees in
+      let line : List T = to_come seen (p ∷ past) rest in
+      let filled : List T = flat_map (final seen) (fill (filled_by p.1)) in
+      record {
+        due = subst (Due (in_hand seen (was_filled past)) members)
+            (ap (λ list. (list ++ filled) ++ line) (sym none)
+            ∙ ap (λ list. list ++ line) (sym e.hands))
+            (before_fill o seen past p members line run still agrees rest_of.due);
+        nobody = rest_of.nobody;
+      }
+
+  -- from each moment of a run on
+  pub outcome : (o : Opening) (seen : ℕ → Option T) (rest : List (Action T A)) (past : Log T A)
+      (members : List (Member T A)) → IsRun o (reverse_aux rest past)
+      → is_over (reverse_aux rest past) ≡ false
+      → ((t : ℕ) → seen t ≡ shown (reverse_aux rest past) t) → Agree o past members
+      → Interleaved (actions_of members) (filter is_of_party rest)
+      → Outcome o seen past rest members
+  outcome o seen [] past members run still same agree merged =
+      let none = due_none (in_hand seen (was_filled past)) members refl merged in
+      record { due = none.0; nobody = λ t. sym (agree t) ∙ none.1 t }
+  outcome o seen (p ∷ rest) past members run still same agree merged =
+      by_case (is_of_party p) refl
+      (λ others. outcome o seen rest (p ∷ past) others run still same)
+    where
+      now : IsRun o (p ∷ past)
+      now = run_before o rest (p ∷ past) run
+
+      open_now : is_over (p ∷ past) ≡ false
+      open_now = open_before o rest (p ∷ past) run still
+
+      by_next : Next p (filter is_of_party rest) members
+          → ((others : List (Member T A)) → Agree o (p ∷ past) others
+          → Interleaved (actions_of others) (filter is_of_party rest)
+          → Outcome o seen (p ∷ past) rest others)
+          → Outcome o seen past (p ∷ rest) members
+      by_next found deeper =
+          subst (Outcome o seen past (p ∷ rest)) (sym found.place)
+          (owned o seen past p rest found.later found.before found.after found.member now open_now
+          (λ t x is. same t ∙ shown_now o rest past p t x run is)
+          (subst (Agree o past) found.place agree)
+          (subst (λ list. Course list found.member.parked found.member.got) found.first
+          found.member.course)
+          (λ n is agrees. deeper (found.before ++ n ∷ found.after) agrees (found.rest n is)))
+
+      by_case : (b : Bool) → is_of_party p ≡ b
+          → ((others : List (Member T A)) → Agree o (p ∷ past) others
+          → Interleaved (actions_of others) (filter is_of_party rest)
+          → Outcome o seen (p ∷ past) rest others)
+          → Outcome o seen past (p ∷ rest) members
+      by_case true is deeper =
+          by_next (next members p (filter is_of_party rest) (rw is at merged)) deeper
+      by_case false is deeper =
+          unowned o seen past p rest members now open_now is agree
+          (λ agrees. deeper members agrees (rw is at merged))

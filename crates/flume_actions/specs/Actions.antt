@@ -1,0 +1,45 @@
+-- What is done to a channel, as its history has it.
+use Rattle.std.specs.Prelude.{◌≡◌, ℕ, Bool, true, false, List, [], Option, filter, reverse}
+use Rattle.flume_model.specs.declared.step.Step.{Step}
+use Rattle.flume_model.specs.declared.step.Step.TheVariants.{TrySend, Send, PollSend, WithdrawSend}
+use Rattle.flume_model.specs.declared.step.Step.TheVariants.{TryRecv, Recv, Poll, Withdraw, Drain}
+use Rattle.flume_model.specs.declared.step.Reply.{Reply}
+use Rattle.flume_model.specs.Log.{opens}
+use Rattle.flume_model.specs.Counts.{is_over}
+use Rattle.flume_model.specs.Line.{line}
+use Rattle.flume_model.specs.Replies.{IsRun}
+
+-- a step with its reply; A is the allocator of the lists in replies
+abbrev pub Action : Type 0 → Type 0 → Type 0
+Action T A = Step T × Reply T A
+
+module _ {T : Type 0} where
+  -- whether a step sends or receives; the others, such as a clone or a query, move no message
+  abbrev pub moves_message : Step T → Bool
+  moves_message (TrySend message) = true
+  moves_message (Send message) = true
+  moves_message (PollSend ticket) = true
+  moves_message (WithdrawSend ticket) = true
+  moves_message TryRecv = true
+  moves_message (Recv kind) = true
+  moves_message (Poll ticket) = true
+  moves_message (Withdraw ticket) = true
+  moves_message Drain = true
+  moves_message _ = false
+
+module _ {T A : Type 0} where
+  -- whether the action is a party's: one that moves no message may be anybody's
+  abbrev pub is_of_party : Action T A → Bool
+  is_of_party action = moves_message action.0
+
+  -- These actions of parties are all there were. A channel was opened with the capacity, and the
+  -- history is all that was done to it, the oldest first.
+  pub record IsWhole (capacity : Option ℕ) (actions : List (Action T A)) (is_emptied : Bool)
+      : Type 0 where
+    pub history : List (Action T A)
+    -- the actions are those of the history that move messages
+    pub all : actions ≡ filter is_of_party history
+    -- each reply was the abstract channel's
+    pub run : IsRun (opens capacity 1) (reverse history)
+    -- if it is emptied, no message is queued or blocked, and none was dropped with both sides
+    pub left : is_emptied ≡ true → (line (reverse history) ≡ []) × (is_over (reverse history) ≡ false)

@@ -1,0 +1,6 @@
+pub mod Actions
+pub mod SendCalls
+pub mod ReceiveCalls
+pub mod Calls
+pub mod Together
+pub mod Callers

@@ -1,0 +1,6 @@
+//! What the actions of parties say: which calls they are, and what those sent and got.
+#![tactic(auto)]
+
+mod laws;
+
+pub use laws::what_was_sent_is_what_was_got;

@@ -1,0 +1,14 @@
+-- The steps were recorded, and lead to the channel after them.
+use Rattle.flume_keeper.proofs.KeepLemmas.{leads_on}
+use Rattle.flume_keeper.proofs.traced.TracedKeeper.keep.Goals as goal
+
+pub record-requires : goal.record-requires
+record-requires g c =
+    let made = c.requires.made in
+    record {
+      some = (
+        made.made,
+        (made.answered, leads_on g.J.ChannelName.capacity c.self.inside.trace made (rw c.self.view_is c.requires.fits)),
+        g.met.C.MessageTurn.moves _ _ _ made.answered,
+      );
+    }

@@ -1,0 +1,14 @@
+-- The steps were recorded, and lead to the channel after them.
+use Rattle.flume_keeper.proofs.KeepLemmas.{leads_on}
+use Rattle.flume_keeper.proofs.traced.TracedKeeper.keep_unowned.Goals as goal
+
+pub record_unowned-requires : goal.record_unowned-requires
+record_unowned-requires g c =
+    let made = c.requires.made in
+    record {
+      some = (
+        made.made,
+        (made.answered, leads_on g.J.ChannelName.capacity c.self.inside.trace made (rw c.self.view_is c.requires.fits)),
+        g.met.C.EndTurn.moves _ _ _ made.answered,
+      );
+    }

@@ -1,0 +1,17 @@
+//! Who keeps what is done to a channel. Under the lock, beside the channel, lies a keeper: `NoTrace`
+//! keeps nothing, and a `Traced` all that was done to this very channel, and by which party. What is
+//! kept exists in proofs only: neither has bytes.
+#![tactic(auto)]
+
+mod keeper;
+mod kept;
+mod no_trace;
+mod settle;
+mod traced;
+mod turns;
+
+pub use keeper::{Keeper, Made};
+pub use kept::Kept;
+pub use no_trace::{NoParty, NoTrace};
+pub use traced::{ChannelName, ChannelParty, MessageMoves, Traced};
+pub use turns::{EndTurn, MessageTurn};
