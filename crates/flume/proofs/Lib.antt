@@ -9,3 +9,9 @@ mod ReceivePollLemmas
 mod SelectionLemmas
 mod SendPollLemmas
 mod StepLemmas
+-- What a call of a party did, as its actions.
+mod TracedLemmas
+-- What a call of a party sent and got.
+mod TracedCallLemmas
+-- The arms of a list of sends, one for each pair so far.
+mod ArmListLemmas

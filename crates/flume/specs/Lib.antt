@@ -17,3 +17,4 @@ pub mod ReceivePolls
 pub mod SelectionCalls
 pub mod Selections
 pub mod SendPolls
+pub mod PartySteps

@@ -91,6 +91,12 @@ impl<R: Waits, A: Allocator + Copy> Builder<R, A> {
         }
     }
 
+    pub(crate) fn into_parts(self) -> (R, A, u64)
+        ensures number { result.2 ≡ self.number }
+    {
+        (self.rt, self.alloc, self.id)
+    }
+
     /// Opens an unbounded channel. `NoMemory`: it couldn't be allocated.
     pub fn unbounded<T: Drop>(self) -> Result<(Sender<T, R, A>, Receiver<T, R, A>), NoMemory>
         ensures sender { IfOk result (λ ends. ends.0 ≡ self.number) }

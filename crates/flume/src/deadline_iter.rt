@@ -7,14 +7,13 @@ ghost use Rattle.flume_deadline.specs.Deadlines.{IsAfter, CanBeAhead};
 ghost use Rattle.flume.specs.GateSteps.{Receives};
 ghost use Rattle.flume.specs.Iterators.{new_deadline_iter, IsNextInTime};
 
-use crate::gate::Gate;
 use crate::iterators::show;
 use crate::progress::Progress;
 use crate::receiver::Receiver;
 use crate::shared::Waits;
-use flume_calls::gates::recv_over;
 use flume_core::error::RecvTimeoutError;
 use flume_deadline::Deadline;
+use flume_keeper::NoParty;
 use std::alloc::{Allocator, Global};
 use std::fmt;
 use std::marker::Model;
@@ -130,8 +129,7 @@ fn receive<T: Drop, R: Waits, A: Allocator + Copy>(
     if deadline.is_reached(rt) {
         return Err(RecvTimeoutError::Timeout);
     }
-    let mut gate = Gate::new(receiver.shared(), deadline);
-    recv_over(rt, &mut gate)
+    receiver.recv_until(&mut NoParty, deadline)
 }
 
 impl<'a, T: Drop, R: Waits, A: Allocator + Copy> Iterator for DeadlineIter<'a, T, R, A> {

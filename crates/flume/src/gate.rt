@@ -1,7 +1,15 @@
 //! The gate of the ends: turns are made under the channel's lock, and a call waits on its parker.
-ghost use Rattle.std.specs.Prelude.{◌≡◌, ⊤};
+ghost use Rattle.std.specs.Prelude.{◌≡◌, ⊤, Err};
+ghost use Rattle.flume_model.specs.declared.step.Step.TheVariants.{TrySend, TryRecv};
+ghost use Rattle.flume_calls.specs.SendTurns.{after_try_send};
 ghost use Rattle.flume.specs.GateSteps.{MakesWaiter, WaitsUpTo, SendFirst, SendPark, SendAgain};
 ghost use Rattle.flume.specs.GateSteps.{ReceiveFirst, ReceivePark, ReceiveAgain};
+ghost use Rattle.flume.specs.GateSteps.{Sends, Receives};
+ghost use Rattle.flume.specs.LockedTurns.{HasMade};
+ghost use Rattle.flume.specs.ManyReceiveSteps.{FindsNone};
+ghost use Rattle.flume.specs.PartySteps.{FirstSendOf, ParkSendOf, AgainSendOf, SendsOf, Same};
+ghost use Rattle.flume.specs.PartySteps.{FirstReceiveOf, ParkReceiveOf, AgainReceiveOf};
+ghost use Rattle.flume.specs.PartySteps.{ReceivesOf};
 
 use crate::shared::{Shared, Waits};
 use crate::signal::{Parker, Signal};
@@ -9,54 +17,128 @@ use flume_calls::calls::{
     AgainReceive, AgainSend, FirstReceive, FirstSend, ParkReceive, ParkSend, RecvCall, RecvNext,
     SendCall, SendNext,
 };
-use flume_calls::gates::{RecvGate, SendGate};
+use flume_calls::gates::{RecvGate, SendGate, recv_over, send_over, waiting_receive, waiting_send};
+use flume_core::error::{RecvTimeoutError, SendTimeoutError};
 use flume_deadline::Deadline;
+use flume_keeper::Keeper;
 use flume_model::step::Kind;
 use std::alloc::Allocator;
-use std::marker::Model;
 use std::sync::Arc;
 
 #[derive(Drop)]
-pub(crate) struct Gate<'a, T, R: Waits, A: Allocator + Copy> {
-    shared: &'a Shared<T, R, A>,
+pub(crate) struct Gate<'a, T, R: Waits, A: Allocator + Copy, K: Keeper<T, A>> {
+    shared: &'a Shared<T, R, A, K>,
     deadline: Deadline,
+    me: &'a mut K::Party,
 }
 
-impl<'a, T, R: Waits, A: Allocator + Copy> Model for Gate<'a, T, R, A> {
-    ghost use Rattle.flume_deadline.specs.declared.Deadline.{Deadline};
-
-    ghost Value = { Deadline };
-
-    ghost view = { λ gate. gate.deadline };
-}
-
-impl<'a, T: Drop, R: Waits, A: Allocator + Copy> Gate<'a, T, R, A> {
+impl<'a, T: Drop, R: Waits, A: Allocator + Copy, K: Keeper<T, A>> Gate<'a, T, R, A, K> {
     #[inline(always)]
-    pub(crate) fn new(shared: &'a Shared<T, R, A>, deadline: Deadline) -> Self
-        ensures deadline { result ≡ deadline }
+    pub(crate) fn new(
+        shared: &'a Shared<T, R, A, K>,
+        deadline: Deadline,
+        me: &'a mut K::Party,
+    ) -> Self
+        ensures deadline { result.deadline ≡ deadline }
+        ensures party { result.me.now ≡ me.old }
+        ensures same_reference { result.me.ghost_name ≡ me.entry.ghost_name }
     {
-        Gate { shared, deadline }
+        Gate {
+            shared,
+            deadline,
+            me,
+        }
+    }
+
+    /// A send, with its first turn.
+    #[inline(always)]
+    pub(crate) fn send(&mut self, message: T) -> Result<(), SendTimeoutError<T>>
+        ensures made { Sends A self.old.deadline message result }
+        ensures no_memory { (back : T) → result ≡ Err (SendTimeoutError.NoMemory back)
+            → back ≡ message }
+        ensures did { SendsOf K.did self.old.me.now message self.new.me.now result }
+        ensures same_reference { self.new.me.ghost_name ≡ self.old.me.ghost_name }
+    {
+        let shared = self.shared;
+        send_over(&shared.rt, self, message)
+    }
+
+    /// A send, after a first turn that found the channel full.
+    #[inline(always)]
+    pub(crate) fn send_to_full(&mut self, message: T) -> Result<(), SendTimeoutError<T>>
+        requires full { HasMade {A = A} (TrySend message) after_try_send
+            (SendNext.NeedSignal message) }
+        requires offered { (start : K.Party)
+            × FirstSendOf K.did start message self.old.me.now (SendNext.NeedSignal message) }
+        ensures made { Sends A self.old.deadline message result }
+        ensures no_memory { (back : T) → result ≡ Err (SendTimeoutError.NoMemory back)
+            → back ≡ message }
+        ensures did { (start : K.Party)
+            → FirstSendOf K.did start message self.old.me.now (SendNext.NeedSignal message)
+            → SendsOf K.did start message self.new.me.now result }
+        ensures same_reference { self.new.me.ghost_name ≡ self.old.me.ghost_name }
+    {
+        let shared = self.shared;
+        waiting_send(&shared.rt, self, message)
+    }
+
+    /// A receive, with its first turn.
+    #[inline(always)]
+    pub(crate) fn receive(&mut self) -> Result<T, RecvTimeoutError>
+        ensures made { Receives A self.old.deadline result }
+        ensures did { ReceivesOf K.did self.old.me.now self.new.me.now result }
+        ensures same_reference { self.new.me.ghost_name ≡ self.old.me.ghost_name }
+    {
+        let shared = self.shared;
+        recv_over(&shared.rt, self)
+    }
+
+    /// A receive, after a first turn that found the channel empty.
+    #[inline(always)]
+    pub(crate) fn receive_from_empty(&mut self) -> Result<T, RecvTimeoutError>
+        requires none { FindsNone T A }
+        requires tried { (start : K.Party)
+            × FirstReceiveOf K.did start self.old.me.now RecvNext.NeedSignal }
+        ensures made { Receives A self.old.deadline result }
+        ensures did { (start : K.Party)
+            → FirstReceiveOf K.did start self.old.me.now RecvNext.NeedSignal
+            → ReceivesOf K.did start self.new.me.now result }
+        ensures same_reference { self.new.me.ghost_name ≡ self.old.me.ghost_name }
+    {
+        let shared = self.shared;
+        waiting_receive(&shared.rt, self)
     }
 }
 
-impl<T: Drop, R: Waits, A: Allocator + Copy> SendGate<T> for Gate<'_, T, R, A> {
+impl<T: Drop, R: Waits, A: Allocator + Copy, K: Keeper<T, A>> SendGate<T> for Gate<'_, T, R, A, K> {
     type Waiter = Arc<Parker, A>;
 
     type Signal = Signal<A>;
 
-    ghost first_turn = { SendFirst A };
+    ghost first_turn = { λ old message new next.
+        SendFirst A old.deadline message new.deadline next
+        × (new.me.ghost_name ≡ old.me.ghost_name)
+        × FirstSendOf K.did old.me.now message new.me.now next };
 
-    ghost makes = { MakesWaiter };
+    ghost makes = { λ old new made. MakesWaiter old.deadline new.deadline made
+        × (new.me.ghost_name ≡ old.me.ghost_name) × Same K.did old.me.now new.me.now made };
 
-    ghost parking_turn = { SendPark A };
+    ghost parking_turn = { λ old message new next.
+        SendPark A old.deadline message new.deadline next
+        × (new.me.ghost_name ≡ old.me.ghost_name)
+        × ParkSendOf K.did old.me.now message new.me.now next };
 
-    ghost parked_turn = { SendAgain A };
+    ghost parked_turn = { λ old ticket last new next.
+        SendAgain A old.deadline ticket last new.deadline next
+        × (new.me.ghost_name ≡ old.me.ghost_name)
+        × AgainSendOf K.did old.me.now ticket last new.me.now next };
 
-    ghost waits = { WaitsUpTo };
+    ghost waits = { λ old new expired. WaitsUpTo old.deadline new.deadline expired
+        × (new.me.ghost_name ≡ old.me.ghost_name) × Same K.did old.me.now new.me.now expired };
 
     #[inline(always)]
     fn first(&mut self, message: T) -> SendNext<T> {
-        self.shared.call_step(FirstSend { message })
+        self.shared.call_step(self.me, FirstSend { message })
     }
 
     #[inline(always)]
@@ -66,13 +148,14 @@ impl<T: Drop, R: Waits, A: Allocator + Copy> SendGate<T> for Gate<'_, T, R, A> {
 
     #[inline(always)]
     fn park(&mut self, message: T, signal: Signal<A>) -> SendNext<T> {
-        self.shared.call_cold(ParkSend { message, signal })
+        self.shared.call_cold(self.me, ParkSend { message, signal })
     }
 
     #[inline(always)]
     fn again(&mut self, call: SendCall, last: bool) -> SendNext<T> {
         let signal = None;
-        self.shared.call_cold(AgainSend { call, last, signal })
+        self.shared
+            .call_cold(self.me, AgainSend { call, last, signal })
     }
 
     #[inline(always)]
@@ -81,26 +164,35 @@ impl<T: Drop, R: Waits, A: Allocator + Copy> SendGate<T> for Gate<'_, T, R, A> {
     }
 }
 
-impl<T: Drop, R: Waits, A: Allocator + Copy> RecvGate<T> for Gate<'_, T, R, A> {
+impl<T: Drop, R: Waits, A: Allocator + Copy, K: Keeper<T, A>> RecvGate<T> for Gate<'_, T, R, A, K> {
     type Waiter = Arc<Parker, A>;
 
     type Signal = Signal<A>;
 
-    ghost first_turn = { ReceiveFirst A };
+    ghost first_turn = { λ old new next. ReceiveFirst A old.deadline new.deadline next
+        × (new.me.ghost_name ≡ old.me.ghost_name)
+        × FirstReceiveOf K.did old.me.now new.me.now next };
 
-    ghost makes = { MakesWaiter };
+    ghost makes = { λ old new made. MakesWaiter old.deadline new.deadline made
+        × (new.me.ghost_name ≡ old.me.ghost_name) × Same K.did old.me.now new.me.now made };
 
-    ghost parking_turn = { ReceivePark A };
+    ghost parking_turn = { λ old new next. ReceivePark A old.deadline new.deadline next
+        × (new.me.ghost_name ≡ old.me.ghost_name)
+        × ParkReceiveOf K.did old.me.now new.me.now next };
 
-    ghost parked_turn = { ReceiveAgain A };
+    ghost parked_turn = { λ old ticket last new next.
+        ReceiveAgain A old.deadline ticket last new.deadline next
+        × (new.me.ghost_name ≡ old.me.ghost_name)
+        × AgainReceiveOf K.did old.me.now ticket last new.me.now next };
 
-    ghost waits = { WaitsUpTo };
+    ghost waits = { λ old new expired. WaitsUpTo old.deadline new.deadline expired
+        × (new.me.ghost_name ≡ old.me.ghost_name) × Same K.did old.me.now new.me.now expired };
 
     ghost can_park = { λ _. ⊤ };
 
     #[inline(always)]
     fn first(&mut self) -> RecvNext<T> {
-        self.shared.call_step(FirstReceive)
+        self.shared.call_step(self.me, FirstReceive)
     }
 
     #[inline(always)]
@@ -111,13 +203,14 @@ impl<T: Drop, R: Waits, A: Allocator + Copy> RecvGate<T> for Gate<'_, T, R, A> {
     #[inline(always)]
     fn park(&mut self, signal: Signal<A>) -> RecvNext<T> {
         let kind = Kind::Block;
-        self.shared.call_cold(ParkReceive { kind, signal })
+        self.shared.call_cold(self.me, ParkReceive { kind, signal })
     }
 
     #[inline(always)]
     fn again(&mut self, call: RecvCall, last: bool) -> RecvNext<T> {
         let signal = None;
-        self.shared.call_cold(AgainReceive { call, last, signal })
+        self.shared
+            .call_cold(self.me, AgainReceive { call, last, signal })
     }
 
     #[inline(always)]

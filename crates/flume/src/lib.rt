@@ -52,6 +52,7 @@
 
 mod answers;
 mod backoff;
+mod bodies;
 mod builder;
 mod deadline_iter;
 mod drain;
@@ -71,6 +72,7 @@ mod shared;
 pub mod signal;
 mod single;
 mod task;
+pub mod traced;
 mod weak;
 
 pub use builder::{Builder, on};

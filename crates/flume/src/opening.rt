@@ -1,10 +1,16 @@
 //! New channels.
-ghost use Rattle.std.specs.Prelude.{◌≡◌, IfOk};
+ghost use Rattle.std.specs.Prelude.{◌≡◌, [], IfOk};
+ghost use Rattle.flume_model.specs.Log.{opens};
+ghost use Rattle.flume_state.specs.State.{State};
+ghost use Rattle.flume_core.specs.Represents.{Represents};
+ghost use Rattle.flume_keeper.specs.Keeps.{LogsOf};
+ghost use Rattle.flume.specs.declared.signal.Signal.{Signal};
 
 use crate::receiver::Receiver;
 use crate::sender::Sender;
 use crate::shared::{Shared, Waits};
 use flume_core::error::NoMemory;
+use flume_keeper::{Keeper, NoTrace};
 use std::alloc::Allocator;
 use std::sync::Arc;
 
@@ -22,7 +28,7 @@ pub fn unbounded<T: Drop, R: Waits, A: Allocator + Copy>(
     ensures sender { IfOk result (λ ends. ends.0 ≡ id) }
     ensures receiver { IfOk result (λ ends. ends.1 ≡ id) }
 {
-    ends(rt, alloc, id, None)
+    ends(rt, alloc, id, None, NoTrace)
 }
 
 /// As `flume::on(rt).allocator(alloc).number(id).bounded(capacity)`.
@@ -41,19 +47,22 @@ pub fn bounded<T: Drop, R: Waits, A: Allocator + Copy>(
     ensures sender { IfOk result (λ ends. ends.0 ≡ id) }
     ensures receiver { IfOk result (λ ends. ends.1 ≡ id) }
 {
-    ends(rt, alloc, id, Some(capacity))
+    ends(rt, alloc, id, Some(capacity), NoTrace)
 }
 
-fn ends<T: Drop, R: Waits, A: Allocator + Copy>(
+pub(crate) fn ends<T: Drop, R: Waits, A: Allocator + Copy, K: Keeper<T, A>>(
     rt: R,
     alloc: A,
     id: u64,
     capacity: Option<usize>,
-) -> Result<(Sender<T, R, A>, Receiver<T, R, A>), NoMemory>
+    keeper: K,
+) -> Result<(Sender<T, R, A, K>, Receiver<T, R, A, K>), NoMemory>
+    requires starts { (s : State T (Signal A)) → Represents {A = A} (opens capacity 1) [] s
+        → K.fits keeper (LogsOf s) }
     ensures sender { IfOk result (λ ends. ends.0 ≡ id) }
     ensures receiver { IfOk result (λ ends. ends.1 ≡ id) }
 {
-    let Ok(one) = Arc::new(alloc, Shared::new(rt, alloc, id, capacity)) else {
+    let Ok(one) = Arc::new(alloc, Shared::new(rt, alloc, id, capacity, keeper)) else {
         return Err(NoMemory);
     };
     let other = Arc::try_clone(&one)?;

@@ -11,20 +11,17 @@ ghost use Rattle.flume.specs.CallSteps.{HasReplied};
 ghost use Rattle.flume.specs.CallSteps as answer;
 ghost use Rattle.flume.specs.GateSteps.{Receives};
 ghost use Rattle.flume.specs.Iterators.{after_drain};
-ghost use Rattle.flume.specs.ManyReceiveSteps.{FindsNone};
 ghost use Rattle.flume.specs.LockedTurns.{HasCounted, HasMade};
 ghost use Rattle.flume.specs.Iterators.{new_iter};
 
-use crate::answers::{receive_answer, try_receive_answer};
 use crate::drain::Drain;
-use crate::gate::Gate;
 use crate::iterators::{Iter, TryIter};
 use crate::shared::{Shared, Waits};
-use flume_calls::calls::{FirstReceive, RecvNext};
-use flume_calls::gates::{recv_over, waiting_receive};
-use flume_calls::single::{CountQuery, FlagQuery, SingleStep};
+use crate::signal::Signal;
+use flume_calls::single::{CountQuery, EndStep, FlagQuery};
 use flume_core::error::{CapacityError, NoMemory, RecvError, RecvTimeoutError, TryRecvError};
 use flume_deadline::Deadline;
+use flume_keeper::{Keeper, NoParty, NoTrace};
 use flume_model::step::{Reply, Step};
 use std::alloc::{AllocError, Allocator, Global};
 use std::fmt;
@@ -35,23 +32,22 @@ use std::time::{Duration, Instant};
 /// Receives messages of a channel, as its clones do: each goes to one of them. The channel closes
 /// with the last: blocked senders get their messages back, and what is queued stays until no sender
 /// lives either. An error takes no message. `Disconnected`: none is there, and no sender lives.
-pub struct Receiver<T, R: Waits, A: Allocator + Copy = Global> {
-    shared: Arc<Shared<T, R, A>, A>,
+pub struct Receiver<T, R, A = Global, K = NoTrace>
+where
+    R: Waits,
+    A: Allocator + Copy,
+    K: Keeper<T, A>,
+{
+    shared: Arc<Shared<T, R, A, K>, A>,
 }
 
-impl<T, R: Waits, A: Allocator + Copy> Model for Receiver<T, R, A> {
+impl<T, R: Waits, A: Allocator + Copy, K: Keeper<T, A>> Model for Receiver<T, R, A, K> {
     ghost Value = { ℕ };
 
     ghost view = { λ receiver. receiver.shared.value.id };
 }
 
 impl<T: Drop, R: Waits, A: Allocator + Copy> Receiver<T, R, A> {
-    pub(crate) fn from_shared(shared: Arc<Shared<T, R, A>, A>) -> Self
-        ensures number { result ≡ shared.value.id }
-    {
-        Receiver { shared }
-    }
-
     /// Takes the next message, and doesn't wait. `Empty`: none is there.
     /// ```
     /// let (tx, rx) = flume::on(rt).unbounded()?;
@@ -66,7 +62,7 @@ impl<T: Drop, R: Waits, A: Allocator + Copy> Receiver<T, R, A> {
             (answer.try_receive_as_turn result) }
         ensures never_no_memory { result ≢ Err TryRecvError.NoMemory }
     {
-        try_receive_answer(self.shared.call_step(FirstReceive))
+        self.try_recv_as(&mut NoParty)
     }
 
     /// Takes the next message, and waits while there is none. `NoMemory`: no memory to wait.
@@ -80,21 +76,7 @@ impl<T: Drop, R: Waits, A: Allocator + Copy> Receiver<T, R, A> {
     pub fn recv(&self) -> Result<T, RecvError>
         ensures made { Receives A Deadline.Never (answer.receive_as_timed result) }
     {
-        match self.shared.call_step(FirstReceive) {
-            RecvNext::Done(result) => receive_answer(result),
-            RecvNext::NeedSignal => self.recv_from_empty(),
-            RecvNext::Park(_) | RecvNext::Refused(_) => unreachable!(),
-        }
-    }
-
-    #[cold]
-    #[inline(never)]
-    fn recv_from_empty(&self) -> Result<T, RecvError>
-        requires none { FindsNone T A }
-        ensures made { Receives A Deadline.Never (answer.receive_as_timed result) }
-    {
-        let mut gate = Gate::new(&self.shared, Deadline::Never);
-        receive_answer(waiting_receive(&self.shared.rt, &mut gate))
+        self.recv_as(&mut NoParty)
     }
 
     /// As `recv`, waiting up to the deadline. `Timeout`: it is reached, or the clock can't be read,
@@ -107,8 +89,7 @@ impl<T: Drop, R: Waits, A: Allocator + Copy> Receiver<T, R, A> {
     pub fn recv_deadline(&self, deadline: Instant) -> Result<T, RecvTimeoutError>
         ensures made { Receives A (Deadline.At deadline) result }
     {
-        let mut gate = Gate::new(&self.shared, Deadline::At(deadline));
-        recv_over(&self.shared.rt, &mut gate)
+        self.recv_until(&mut NoParty, Deadline::At(deadline))
     }
 
     /// As `recv_deadline`, so long from now; as `recv`, if no time of the clock is that late.
@@ -117,8 +98,7 @@ impl<T: Drop, R: Waits, A: Allocator + Copy> Receiver<T, R, A> {
             × Receives A deadline result }
     {
         let deadline = Deadline::after(&self.shared.rt, timeout);
-        let mut gate = Gate::new(&self.shared, deadline);
-        recv_over(&self.shared.rt, &mut gate)
+        self.recv_until(&mut NoParty, deadline)
     }
 
     /// The messages, one after the other. It waits for each, and ends if `recv` fails. That a `for`
@@ -158,11 +138,19 @@ impl<T: Drop, R: Waits, A: Allocator + Copy> Receiver<T, R, A> {
     pub fn drain(&self) -> Result<Drain<'_, T, A>, NoMemory>
         ensures made { HasMade {A = A} Step.Drain after_drain result }
     {
-        Drain::answer(self.shared.single(SingleStep::Drain))
+        self.drain_as(&mut NoParty)
+    }
+}
+
+impl<T: Drop, R: Waits, A: Allocator + Copy, K: Keeper<T, A>> Receiver<T, R, A, K> {
+    pub(crate) fn from_shared(shared: Arc<Shared<T, R, A, K>, A>) -> Self
+        ensures number { result ≡ shared.value.id }
+    {
+        Receiver { shared }
     }
 
     #[inline(always)]
-    pub(crate) fn shared(&self) -> &Shared<T, R, A> {
+    pub(crate) fn shared(&self) -> &Shared<T, R, A, K> {
         &self.shared
     }
 
@@ -224,7 +212,7 @@ impl<T: Drop, R: Waits, A: Allocator + Copy> Receiver<T, R, A> {
     }
 
     /// Whether both receive from channels of the same number.
-    pub fn same_channel(&self, other: &Receiver<T, R, A>) -> bool
+    pub fn same_channel(&self, other: &Receiver<T, R, A, K>) -> bool
         ensures same { result ≡ (self.now == other.now) }
     {
         self.shared.id == other.shared.id
@@ -260,7 +248,7 @@ impl<T: Drop, R: Waits, A: Allocator + Copy> Receiver<T, R, A> {
     }
 }
 
-impl<T: Drop, R: Waits, A: Allocator + Copy> Clone for Receiver<T, R, A> {
+impl<T: Drop, R: Waits, A: Allocator + Copy, K: Keeper<T, A>> Clone for Receiver<T, R, A, K> {
     ghost is_clone = { λ receiver copy. copy ≡ receiver };
 
     fn clone(&self) -> Result<Self, AllocError>
@@ -268,22 +256,22 @@ impl<T: Drop, R: Waits, A: Allocator + Copy> Clone for Receiver<T, R, A> {
         ensures made { IfOk result (λ _. HasReplied {T = T} {A = A} Step.CloneReceiver Reply.Done) }
     {
         let shared = Arc::try_clone(&self.shared)?;
-        match shared.single(SingleStep::CloneReceiver) {
+        match shared.end_step(EndStep::CloneReceiver) {
             Reply::Done => Ok(Receiver { shared }),
             _ => Err(AllocError),
         }
     }
 }
 
-impl<T: Drop, R: Waits, A: Allocator + Copy> fmt::Debug for Receiver<T, R, A> {
+impl<T: Drop, R: Waits, A: Allocator + Copy, K: Keeper<T, A>> fmt::Debug for Receiver<T, R, A, K> {
     fn fmt<W: fmt::Write>(&self, f: &mut fmt::Formatter<W>) -> fmt::Result {
         f.write_str("Receiver")
     }
 }
 
-impl<T: Drop, R: Waits, A: Allocator + Copy> Drop for Receiver<T, R, A> {
+impl<T: Drop, R: Waits, A: Allocator + Copy, K: Keeper<T, A>> Drop for Receiver<T, R, A, K> {
     fn drop(self) {
         let Self { shared } = self;
-        shared.single(SingleStep::DropReceiver);
+        shared.end_step(EndStep::DropReceiver);
     }
 }

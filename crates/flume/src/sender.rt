@@ -12,15 +12,15 @@ ghost use Rattle.flume.specs.CallSteps as answer;
 ghost use Rattle.flume.specs.GateSteps.{Sends};
 ghost use Rattle.flume.specs.LockedTurns.{HasCounted, HasMade};
 
-use crate::answers::{send_answer, try_send_answer};
 use crate::gate::Gate;
 use crate::shared::{Shared, Waits};
+use crate::signal::Signal;
 use crate::weak::WeakSender;
-use flume_calls::calls::{FirstSend, SendNext};
-use flume_calls::gates::{send_over, waiting_send};
-use flume_calls::single::{CountQuery, FlagQuery, SingleStep};
+use flume_calls::calls::SendNext;
+use flume_calls::single::{CountQuery, EndStep, FlagQuery};
 use flume_core::error::{CapacityError, NoMemory, SendError, SendTimeoutError, TrySendError};
 use flume_deadline::Deadline;
+use flume_keeper::{Keeper, NoParty, NoTrace};
 use flume_model::step::{Reply, Step};
 use std::alloc::{AllocError, Allocator, Global};
 use std::fmt;
@@ -32,23 +32,22 @@ use std::time::{Duration, Instant};
 /// is queued is still received. An error has what wasn't taken in. `Disconnected`: no receiver
 /// lives. What is left after all ends is dropped under the channel's lock: a message whose `drop`
 /// upgrades a `WeakSender` of it would wait for itself. One that holds an end of it prevents that.
-pub struct Sender<T, R: Waits, A: Allocator + Copy = Global> {
-    shared: Arc<Shared<T, R, A>, A>,
+pub struct Sender<T, R, A = Global, K = NoTrace>
+where
+    R: Waits,
+    A: Allocator + Copy,
+    K: Keeper<T, A>,
+{
+    shared: Arc<Shared<T, R, A, K>, A>,
 }
 
-impl<T, R: Waits, A: Allocator + Copy> Model for Sender<T, R, A> {
+impl<T, R: Waits, A: Allocator + Copy, K: Keeper<T, A>> Model for Sender<T, R, A, K> {
     ghost Value = { ℕ };
 
     ghost view = { λ sender. sender.shared.value.id };
 }
 
 impl<T: Drop, R: Waits, A: Allocator + Copy> Sender<T, R, A> {
-    pub(crate) fn from_shared(shared: Arc<Shared<T, R, A>, A>) -> Self
-        ensures number { result ≡ shared.value.id }
-    {
-        Sender { shared }
-    }
-
     /// Sends a message, and doesn't wait. `Full`: the channel is full, and no receiver waits.
     /// ```
     /// let (tx, rx) = flume::on(rt).bounded(1)?;
@@ -66,7 +65,7 @@ impl<T: Drop, R: Waits, A: Allocator + Copy> Sender<T, R, A> {
         ensures no_memory { (back : T) → result ≡ Err (TrySendError.NoMemory back)
             → back ≡ message }
     {
-        try_send_answer(self.shared.call_step(FirstSend { message }))
+        self.try_send_as(&mut NoParty, message)
     }
 
     /// Sends a message, and waits while the channel is full.
@@ -80,11 +79,7 @@ impl<T: Drop, R: Waits, A: Allocator + Copy> Sender<T, R, A> {
         ensures made { Sends A Deadline.Never message (answer.send_as_timed result) }
         ensures no_memory { (back : T) → result ≡ Err (SendError.NoMemory back) → back ≡ message }
     {
-        match self.shared.call_step(FirstSend { message }) {
-            SendNext::Done(result) => send_answer(result),
-            SendNext::NeedSignal(message) => self.send_to_full(message),
-            SendNext::Park(_) => unreachable!(),
-        }
+        self.send_as(&mut NoParty, message)
     }
 
     /// As `send`, waiting up to the deadline. `Timeout`: it is reached, or the clock can't be read,
@@ -101,8 +96,7 @@ impl<T: Drop, R: Waits, A: Allocator + Copy> Sender<T, R, A> {
         ensures no_memory { (back : T) → result ≡ Err (SendTimeoutError.NoMemory back)
             → back ≡ message }
     {
-        let mut gate = Gate::new(&self.shared, Deadline::At(deadline));
-        send_over(&self.shared.rt, &mut gate, message)
+        self.send_until(&mut NoParty, message, Deadline::At(deadline))
     }
 
     /// As `send_deadline`, so long from now; as `send`, if no time of the clock is that late.
@@ -113,19 +107,7 @@ impl<T: Drop, R: Waits, A: Allocator + Copy> Sender<T, R, A> {
             → back ≡ message }
     {
         let deadline = Deadline::after(&self.shared.rt, timeout);
-        let mut gate = Gate::new(&self.shared, deadline);
-        send_over(&self.shared.rt, &mut gate, message)
-    }
-
-    #[cold]
-    #[inline(never)]
-    fn send_to_full(&self, message: T) -> Result<(), SendError<T>>
-        requires full { HasMade {A = A} (Step.TrySend message) after_try_send
-            (SendNext.NeedSignal message) }
-        ensures made { Sends A Deadline.Never message (answer.send_as_timed result) }
-        ensures no_memory { (back : T) → result ≡ Err (SendError.NoMemory back) → back ≡ message }
-    {
-        send_answer(self.send_to_full_until(message, Deadline::Never))
+        self.send_until(&mut NoParty, message, deadline)
     }
 
     pub(crate) fn send_to_full_until(
@@ -139,12 +121,21 @@ impl<T: Drop, R: Waits, A: Allocator + Copy> Sender<T, R, A> {
         ensures no_memory { (back : T) → result ≡ Err (SendTimeoutError.NoMemory back)
             → back ≡ message }
     {
-        let mut gate = Gate::new(&self.shared, deadline);
-        waiting_send(&self.shared.rt, &mut gate, message)
+        let me = &mut NoParty;
+        let mut gate = Gate::new(&self.shared, deadline, me);
+        gate.send_to_full(message)
+    }
+}
+
+impl<T: Drop, R: Waits, A: Allocator + Copy, K: Keeper<T, A>> Sender<T, R, A, K> {
+    pub(crate) fn from_shared(shared: Arc<Shared<T, R, A, K>, A>) -> Self
+        ensures number { result ≡ shared.value.id }
+    {
+        Sender { shared }
     }
 
     #[inline(always)]
-    pub(crate) fn shared(&self) -> &Shared<T, R, A> {
+    pub(crate) fn shared(&self) -> &Shared<T, R, A, K> {
         &self.shared
     }
 
@@ -221,14 +212,14 @@ impl<T: Drop, R: Waits, A: Allocator + Copy> Sender<T, R, A> {
     /// drop(tx);
     /// assert!(rt; weak.upgrade()?.is_none());
     /// ```
-    pub fn downgrade(&self) -> Result<WeakSender<T, R, A>, NoMemory>
+    pub fn downgrade(&self) -> Result<WeakSender<T, R, A, K>, NoMemory>
         ensures same { IfOk result (λ weak. weak ≡ self.now) }
     {
         Ok(WeakSender::from_shared(Arc::try_clone(&self.shared)?))
     }
 
     /// Whether both send into channels of the same number.
-    pub fn same_channel(&self, other: &Sender<T, R, A>) -> bool
+    pub fn same_channel(&self, other: &Sender<T, R, A, K>) -> bool
         ensures same { result ≡ (self.now == other.now) }
     {
         self.shared.id == other.shared.id
@@ -251,7 +242,7 @@ impl<T: Drop, R: Waits, A: Allocator + Copy> Sender<T, R, A> {
     }
 }
 
-impl<T: Drop, R: Waits, A: Allocator + Copy> Clone for Sender<T, R, A> {
+impl<T: Drop, R: Waits, A: Allocator + Copy, K: Keeper<T, A>> Clone for Sender<T, R, A, K> {
     ghost is_clone = { λ sender copy. copy ≡ sender };
 
     fn clone(&self) -> Result<Self, AllocError>
@@ -259,22 +250,22 @@ impl<T: Drop, R: Waits, A: Allocator + Copy> Clone for Sender<T, R, A> {
         ensures made { IfOk result (λ _. HasReplied {T = T} {A = A} Step.CloneSender Reply.Done) }
     {
         let shared = Arc::try_clone(&self.shared)?;
-        match shared.single(SingleStep::CloneSender) {
+        match shared.end_step(EndStep::CloneSender) {
             Reply::Done => Ok(Sender { shared }),
             _ => Err(AllocError),
         }
     }
 }
 
-impl<T: Drop, R: Waits, A: Allocator + Copy> fmt::Debug for Sender<T, R, A> {
+impl<T: Drop, R: Waits, A: Allocator + Copy, K: Keeper<T, A>> fmt::Debug for Sender<T, R, A, K> {
     fn fmt<W: fmt::Write>(&self, f: &mut fmt::Formatter<W>) -> fmt::Result {
         f.write_str("Sender")
     }
 }
 
-impl<T: Drop, R: Waits, A: Allocator + Copy> Drop for Sender<T, R, A> {
+impl<T: Drop, R: Waits, A: Allocator + Copy, K: Keeper<T, A>> Drop for Sender<T, R, A, K> {
     fn drop(self) {
         let Self { shared } = self;
-        shared.single(SingleStep::DropSender);
+        shared.end_step(EndStep::DropSender);
     }
 }

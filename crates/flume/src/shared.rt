@@ -1,12 +1,16 @@
 //! What all ends of a channel share.
-ghost use Rattle.std.specs.Prelude.{◌≡◌, None};
+ghost use Rattle.std.specs.Prelude.{◌≡◌, None, []};
 ghost use Rattle.futures.specs.Task.{Covers, Keeps};
 ghost use Rattle.flume_model.specs.declared.step.Step.TheVariants as step;
+ghost use Rattle.flume_model.specs.Log.{opens};
 ghost use Rattle.flume_state.specs.State.{State};
+ghost use Rattle.flume_core.specs.Represents.{Represents};
 ghost use Rattle.flume_calls.specs.Polls.{AtMostOneStep};
 ghost use Rattle.flume_calls.specs.Singles.{after_set_capacity};
 ghost use Rattle.flume.specs.LockedPolls.{HasPolled};
 ghost use Rattle.flume.specs.LockedTurns.{HasDone, HasMade};
+ghost use Rattle.flume_actions.specs.Actions.{IsWhole};
+ghost use Rattle.flume_keeper.specs.Keeps.{Did, LogsOf};
 
 use crate::backoff::{Backoff, FIRST_PAUSES, LOCK_TRIES, UNBOUNDED, pause};
 use crate::signal::{Parker, Signal};
@@ -17,6 +21,9 @@ use flume_calls::polled::Polled;
 use flume_calls::single::SetCapacity;
 use flume_calls::turn::Turn;
 use flume_core::error::CapacityError;
+use flume_keeper::{
+    ChannelName, ChannelParty, EndTurn, Keeper, Kept, MessageTurn, NoTrace, Traced,
+};
 use futures::task::Context;
 use std::alloc::{Allocator, Global};
 use std::sync::atomic::{AtomicU64, Ordering};
@@ -43,8 +50,13 @@ impl<R: Waits, A: Allocator> Bell<Signal<A>> for SignalBell<R> {
 }
 
 #[derive(Drop)]
-pub(crate) struct Shared<T, R: Waits, A: Allocator + Copy = Global> {
-    state: Mutex<Locked<T, Signal<A>, A>>,
+pub(crate) struct Shared<T, R, A = Global, K = NoTrace>
+where
+    R: Waits,
+    A: Allocator + Copy,
+    K: Keeper<T, A>,
+{
+    state: Mutex<Kept<T, Signal<A>, A, K>>,
     pub(crate) id: u64,
     pub(crate) rt: R,
     pub(crate) alloc: A,
@@ -52,13 +64,15 @@ pub(crate) struct Shared<T, R: Waits, A: Allocator + Copy = Global> {
     capacity_hint: AtomicU64,
 }
 
-impl<T: Drop, R: Waits, A: Allocator + Copy> Shared<T, R, A> {
+impl<T: Drop, R: Waits, A: Allocator + Copy, K: Keeper<T, A>> Shared<T, R, A, K> {
     #[inline(always)]
-    pub(crate) fn new(rt: R, alloc: A, id: u64, capacity: Option<usize>) -> Self
+    pub(crate) fn new(rt: R, alloc: A, id: u64, capacity: Option<usize>, keeper: K) -> Self
+        requires starts { (s : State T (Signal A)) → Represents {A = A} (opens capacity 1) [] s
+            → K.fits keeper (LogsOf s) }
         ensures number { result.id ≡ id }
     {
         Shared {
-            state: Mutex::new(Locked::new(alloc, capacity)),
+            state: Mutex::new(Kept::new(alloc, capacity, keeper)),
             id,
             rt,
             alloc,
@@ -91,9 +105,8 @@ impl<T: Drop, R: Waits, A: Allocator + Copy> Shared<T, R, A> {
     {
         // Under one lock, so that of two calls at once one's capacity stays in both places.
         let mut guard = self.lock();
-        let locked = &mut *guard;
-        locked.facts();
-        let answer = locked.make(SetCapacity { capacity }, &mut SignalBell { rt: self.rt });
+        let bell = &mut SignalBell { rt: self.rt };
+        let answer = guard.make_unowned(SetCapacity { capacity }, bell);
         if answer.is_ok() {
             self.capacity_hint.store(capacity as u64, Ordering::SeqCst);
         }
@@ -101,7 +114,7 @@ impl<T: Drop, R: Waits, A: Allocator + Copy> Shared<T, R, A> {
     }
 
     #[inline(always)]
-    pub(crate) fn lock(&self) -> MutexGuard<'_, Locked<T, Signal<A>, A>> {
+    pub(crate) fn lock(&self) -> MutexGuard<'_, Kept<T, Signal<A>, A, K>> {
         match self.state.try_lock() {
             Some(state) => state,
             None => self.wait_for_lock(),
@@ -111,7 +124,7 @@ impl<T: Drop, R: Waits, A: Allocator + Copy> Shared<T, R, A> {
     // Each try takes the lock's memory from the thread that has it, so the pauses get longer.
     #[cold]
     #[inline(never)]
-    fn wait_for_lock(&self) -> MutexGuard<'_, Locked<T, Signal<A>, A>> {
+    fn wait_for_lock(&self) -> MutexGuard<'_, Kept<T, Signal<A>, A, K>> {
         let mut pauses = FIRST_PAUSES;
         for _ in 0..LOCK_TRIES {
             pause(pauses);
@@ -125,51 +138,77 @@ impl<T: Drop, R: Waits, A: Allocator + Copy> Shared<T, R, A> {
 
     // The bells ring before the lock is let go: whoever takes it finds no ticket due.
     #[inline(always)]
-    pub(crate) fn call<C: Turn<T, Signal<A>, A>>(&self, turn: C) -> C::Answer
+    pub(crate) fn call<C: MessageTurn<T, Signal<A>, A>>(
+        &self,
+        me: &mut K::Party,
+        turn: C,
+    ) -> C::Answer
         ensures answers { C.answers turn result }
         ensures made { HasDone A (C.does turn) result }
+        ensures did { Did K.did (C.makes turn) me.old result me.new }
     {
         let mut guard = self.lock();
-        let locked = &mut *guard;
-        locked.facts();
-        locked.make(turn, &mut SignalBell { rt: self.rt })
+        guard.make(me, turn, &mut SignalBell { rt: self.rt })
     }
 
     // If nobody is blocked or waits, one step makes no ticket due, and none is looked for.
     #[inline(always)]
-    pub(crate) fn call_step<C: Turn<T, Signal<A>, A>>(&self, turn: C) -> C::Answer
+    pub(crate) fn call_step<C: MessageTurn<T, Signal<A>, A>>(
+        &self,
+        me: &mut K::Party,
+        turn: C,
+    ) -> C::Answer
         requires one_step { (old new : State T (Signal A)) (answer : C.Answer)
             → C.does turn old new answer → AtMostOneStep A old new }
         ensures answers { C.answers turn result }
         ensures made { HasDone A (C.does turn) result }
+        ensures did { Did K.did (C.makes turn) me.old result me.new }
     {
         let mut guard = match self.state.try_lock() {
             Some(guard) => guard,
             None => self.wait_for_lock(),
         };
-        let locked = &mut *guard;
-        locked.facts();
-        if locked.no_call_waits() {
-            return locked.make_without_bell(turn);
+        let kept = &mut *guard;
+        if kept.locked.no_call_waits() {
+            return kept.make_without_bell(me, turn);
         }
-        locked.make(turn, &mut SignalBell { rt: self.rt })
+        kept.make(me, turn, &mut SignalBell { rt: self.rt })
     }
 
     #[cold]
     #[inline(never)]
-    pub(crate) fn call_cold<C: Turn<T, Signal<A>, A>>(&self, turn: C) -> C::Answer
+    pub(crate) fn call_cold<C: MessageTurn<T, Signal<A>, A>>(
+        &self,
+        me: &mut K::Party,
+        turn: C,
+    ) -> C::Answer
+        ensures answers { C.answers turn result }
+        ensures made { HasDone A (C.does turn) result }
+        ensures did { Did K.did (C.makes turn) me.old result me.new }
+    {
+        self.call(me, turn)
+    }
+
+    #[inline(always)]
+    pub(crate) fn call_unowned<C: EndTurn<T, Signal<A>, A>>(&self, turn: C) -> C::Answer
         ensures answers { C.answers turn result }
         ensures made { HasDone A (C.does turn) result }
     {
-        self.call(turn)
+        let mut guard = self.lock();
+        guard.make_unowned(turn, &mut SignalBell { rt: self.rt })
     }
+}
 
+impl<T: Drop, R: Waits, A: Allocator + Copy> Shared<T, R, A> {
     #[inline(never)]
     pub(crate) fn call_many<C: Turn<T, Signal<A>, A>>(&self, turn: C) -> C::Answer
         ensures answers { C.answers turn result }
         ensures made { HasDone A (C.does turn) result }
     {
-        self.call(turn)
+        let mut guard = self.lock();
+        let locked = &mut guard.locked;
+        locked.facts();
+        locked.make(turn, &mut SignalBell { rt: self.rt })
     }
 
     #[inline(always)]
@@ -184,7 +223,7 @@ impl<T: Drop, R: Waits, A: Allocator + Copy> Shared<T, R, A> {
         ensures kept { Keeps cx.old cx.new }
     {
         let mut guard = self.lock();
-        self.poll_locked(&mut *guard, call, task, cx)
+        self.poll_locked(&mut guard.locked, call, task, cx)
     }
 
     #[inline(always)]
@@ -207,5 +246,15 @@ impl<T: Drop, R: Waits, A: Allocator + Copy> Shared<T, R, A> {
             }
         }
         locked.poll(call, &mut signal, &mut SignalBell { rt: self.rt })
+    }
+}
+
+impl<T: Drop, R: Waits, A: Allocator + Copy, J: ChannelName> Shared<T, R, A, Traced<T, A, J>> {
+    pub(crate) fn settle(&self, me: &mut ChannelParty<T, J, A>) -> bool
+        requires whole { me.old.parts ≡ J.parts }
+        ensures party { me.new ≡ me.old }
+        ensures whole { IsWhole J.capacity me.old.actions result }
+    {
+        self.lock().settle(me)
     }
 }

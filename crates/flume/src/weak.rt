@@ -4,8 +4,10 @@ ghost use Rattle.flume.specs.CallSteps.{HasReplied, upgrade_reply};
 
 use crate::sender::Sender;
 use crate::shared::{Shared, Waits};
-use flume_calls::single::SingleStep;
+use crate::signal::Signal;
+use flume_calls::single::EndStep;
 use flume_core::error::NoMemory;
+use flume_keeper::{Keeper, NoTrace};
 use flume_model::step::{Reply, Step};
 use std::alloc::{AllocError, Allocator, Global};
 use std::fmt;
@@ -14,18 +16,23 @@ use std::sync::Arc;
 
 /// A sender that doesn't keep its channel open. It keeps only the memory that the ends share.
 #[derive(Drop)]
-pub struct WeakSender<T, R: Waits, A: Allocator + Copy = Global> {
-    shared: Arc<Shared<T, R, A>, A>,
+pub struct WeakSender<T, R, A = Global, K = NoTrace>
+where
+    R: Waits,
+    A: Allocator + Copy,
+    K: Keeper<T, A>,
+{
+    shared: Arc<Shared<T, R, A, K>, A>,
 }
 
-impl<T, R: Waits, A: Allocator + Copy> Model for WeakSender<T, R, A> {
+impl<T, R: Waits, A: Allocator + Copy, K: Keeper<T, A>> Model for WeakSender<T, R, A, K> {
     ghost Value = { ℕ };
 
     ghost view = { λ weak. weak.shared.value.id };
 }
 
-impl<T: Drop, R: Waits, A: Allocator + Copy> WeakSender<T, R, A> {
-    pub(crate) fn from_shared(shared: Arc<Shared<T, R, A>, A>) -> Self
+impl<T: Drop, R: Waits, A: Allocator + Copy, K: Keeper<T, A>> WeakSender<T, R, A, K> {
+    pub(crate) fn from_shared(shared: Arc<Shared<T, R, A, K>, A>) -> Self
         ensures number { result ≡ shared.value.id }
     {
         WeakSender { shared }
@@ -40,21 +47,21 @@ impl<T: Drop, R: Waits, A: Allocator + Copy> WeakSender<T, R, A> {
     /// }
     /// assert_eq!(rt; rx.recv(), Ok(7));
     /// ```
-    pub fn upgrade(&self) -> Result<Option<Sender<T, R, A>>, NoMemory>
+    pub fn upgrade(&self) -> Result<Option<Sender<T, R, A, K>>, NoMemory>
         ensures same { IfOk result (λ sender. IfSome sender (λ s. s ≡ self.now)) }
         ensures made { IfOk result (λ sender.
             HasReplied {T = T} {A = A} Step.CloneSender (upgrade_reply sender)) }
     {
         let shared = Arc::try_clone(&self.shared)?;
-        let reply = shared.single(SingleStep::CloneSender);
+        let reply = shared.end_step(EndStep::CloneSender);
         upgrade_answer(reply, shared)
     }
 }
 
-fn upgrade_answer<T: Drop, R: Waits, A: Allocator + Copy>(
+fn upgrade_answer<T: Drop, R: Waits, A: Allocator + Copy, K: Keeper<T, A>>(
     reply: Reply<T, A>,
-    shared: Arc<Shared<T, R, A>, A>,
-) -> Result<Option<Sender<T, R, A>>, NoMemory>
+    shared: Arc<Shared<T, R, A, K>, A>,
+) -> Result<Option<Sender<T, R, A, K>>, NoMemory>
     ensures done { (reply ≡ Reply.Done) ↔ (result ≡ Ok (Some shared.value.id)) }
     ensures no_end { (reply ≡ Reply.NoEnd) ↔ (result ≡ Ok None) }
     ensures others { reply ≢ Reply.Done → reply ≢ Reply.NoEnd → IsErr result }
@@ -66,7 +73,7 @@ fn upgrade_answer<T: Drop, R: Waits, A: Allocator + Copy>(
     }
 }
 
-impl<T: Drop, R: Waits, A: Allocator + Copy> Clone for WeakSender<T, R, A> {
+impl<T: Drop, R: Waits, A: Allocator + Copy, K: Keeper<T, A>> Clone for WeakSender<T, R, A, K> {
     ghost is_clone = { λ weak copy. copy ≡ weak };
 
     fn clone(&self) -> Result<Self, AllocError> {
@@ -75,7 +82,8 @@ impl<T: Drop, R: Waits, A: Allocator + Copy> Clone for WeakSender<T, R, A> {
     }
 }
 
-impl<T: Drop, R: Waits, A: Allocator + Copy> fmt::Debug for WeakSender<T, R, A> {
+impl<T: Drop, R: Waits, A: Allocator + Copy, K: Keeper<T, A>> fmt::Debug
+    for WeakSender<T, R, A, K> {
     fn fmt<W: fmt::Write>(&self, f: &mut fmt::Formatter<W>) -> fmt::Result {
         f.write_str("WeakSender")
     }

@@ -39,7 +39,7 @@ impl<T: Drop, R: Waits, A: Allocator + Copy> Shared<T, R, A> {
         ensures kept { Keeps cx.old cx.new }
     {
         let mut guard = self.lock();
-        let locked = &mut *guard;
+        let locked = &mut guard.locked;
         match self.poll_locked(locked, call, task, cx) {
             Some(Ok(message)) => {
                 buffer.push_reserved(message);
@@ -69,7 +69,7 @@ impl<T: Drop, R: Waits, A: Allocator + Copy> Shared<T, R, A> {
         ensures kept { Keeps cx.old cx.new }
     {
         let mut guard = self.lock();
-        let locked = &mut *guard;
+        let locked = &mut guard.locked;
         let answer = self.poll_locked(locked, call, task, cx);
         if !is_sent(&answer) {
             return (messages, answer);

@@ -13,6 +13,7 @@ use crate::shared::Waits;
 use crate::task::Task;
 use flume_calls::polled::PolledReceive;
 use flume_core::error::RecvError;
+use flume_keeper::NoParty;
 use flume_model::step::{Kind, Reply, Step};
 use futures::Future;
 use futures::task::{Context, Poll};
@@ -167,7 +168,7 @@ impl<T: Drop, R: Waits, A: Allocator + Copy> Drop for RecvFut<'_, T, R, A> {
             task: _,
         } = self;
         if let Some(leaves) = call.end() {
-            receiver.get().shared().call_cold(leaves);
+            receiver.get().shared().call_cold(&mut NoParty, leaves);
         }
     }
 }

@@ -17,6 +17,7 @@ use crate::shared::Waits;
 use crate::task::Task;
 use flume_calls::polled::PolledSend;
 use flume_core::error::SendError;
+use flume_keeper::NoParty;
 use flume_model::step::{Reply, Step};
 use futures::Future;
 use futures::task::{Context, Poll};
@@ -73,7 +74,10 @@ impl<'a, T: Drop, R: Waits, A: Allocator + Copy> SendFut<'a, T, R, A> {
         ensures sender { self.new.sender ≡ self.old.sender }
     {
         if let Some(takes_back) = self.send.end() {
-            self.sender.get().shared().call_cold(takes_back);
+            self.sender
+                .get()
+                .shared()
+                .call_cold(&mut NoParty, takes_back);
         }
         self.send = PolledSend::Unsent(message);
     }
@@ -203,7 +207,7 @@ impl<T: Drop, R: Waits, A: Allocator + Copy> Drop for SendFut<'_, T, R, A> {
             task: _,
         } = self;
         if let Some(takes_back) = send.end() {
-            sender.get().shared().call_cold(takes_back);
+            sender.get().shared().call_cold(&mut NoParty, takes_back);
         }
     }
 }

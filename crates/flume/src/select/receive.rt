@@ -16,6 +16,7 @@ use flume_calls::calls::{AgainReceive, FirstReceive, ParkReceive, RecvCall, Recv
 use flume_calls::gates::ArmNext;
 use flume_core::error::RecvError;
 use flume_core::error::RecvTimeoutError::{Disconnected, NoMemory, Timeout};
+use flume_keeper::NoParty;
 use flume_model::step::Kind;
 use std::alloc::{Allocator, Global};
 use std::mem::replace;
@@ -62,7 +63,10 @@ impl<'a, T: Drop, F: Drop, R: Waits, A: Allocator + Copy> RecvArm<'a, T, F, R, A
         };
         let (kind, signal) = (Kind::Arm, Signal::Arm(signal));
         let shared = self.receiver.shared();
-        let (state, answer) = next_state(shared.call_cold(ParkReceive { kind, signal }));
+        let (state, answer) = next_state(shared.call_cold(
+            &mut NoParty,
+            ParkReceive { kind, signal },
+        ));
         self.state = state;
         answer
     }
@@ -71,7 +75,9 @@ impl<'a, T: Drop, F: Drop, R: Waits, A: Allocator + Copy> RecvArm<'a, T, F, R, A
         ensures does { TriesReceive A result self.new.state }
         ensures mapper { self.new.mapper ≡ self.old.mapper }
     {
-        let (state, answer) = next_state(self.receiver.shared().call_cold(FirstReceive));
+        let (state, answer) = next_state(
+            self.receiver.shared().call_cold(&mut NoParty, FirstReceive),
+        );
         self.state = state;
         answer
     }
@@ -82,7 +88,10 @@ impl<'a, T: Drop, F: Drop, R: Waits, A: Allocator + Copy> RecvArm<'a, T, F, R, A
     {
         let (last, signal) = (false, None);
         let shared = self.receiver.shared();
-        let (state, answer) = next_state(shared.call_cold(AgainReceive { call, last, signal }));
+        let (state, answer) = next_state(shared.call_cold(
+            &mut NoParty,
+            AgainReceive { call, last, signal },
+        ));
         self.state = state;
         answer
     }
@@ -92,7 +101,7 @@ impl<'a, T: Drop, F: Drop, R: Waits, A: Allocator + Copy> RecvArm<'a, T, F, R, A
     {
         let (last, signal) = (true, None);
         let shared = self.receiver.shared();
-        match shared.call_cold(AgainReceive { call, last, signal }) {
+        match shared.call_cold(&mut NoParty, AgainReceive { call, last, signal }) {
             RecvNext::Done(result) => drop(result),
             _ => unreachable!(),
         }

@@ -16,6 +16,7 @@ use flume_calls::calls::{AgainSend, FirstSend, ParkSend, SendCall, SendNext};
 use flume_calls::gates::ArmNext;
 use flume_core::error::SendError;
 use flume_core::error::SendTimeoutError::{Disconnected, NoMemory, Timeout};
+use flume_keeper::NoParty;
 use std::alloc::{Allocator, Global};
 use std::mem::replace;
 use std::sync::Arc;
@@ -61,7 +62,10 @@ impl<'a, T: Drop, F: Drop, R: Waits, A: Allocator + Copy> SendArm<'a, T, F, R, A
         };
         let signal = Signal::Arm(signal);
         let shared = self.sender.shared();
-        let (state, answer) = next_state(shared.call_cold(ParkSend { message, signal }));
+        let (state, answer) = next_state(shared.call_cold(
+            &mut NoParty,
+            ParkSend { message, signal },
+        ));
         self.state = state;
         answer
     }
@@ -70,7 +74,11 @@ impl<'a, T: Drop, F: Drop, R: Waits, A: Allocator + Copy> SendArm<'a, T, F, R, A
         ensures does { TriesSend A message result self.new.state }
         ensures mapper { self.new.mapper ≡ self.old.mapper }
     {
-        let (state, answer) = next_state(self.sender.shared().call_cold(FirstSend { message }));
+        let (state, answer) = next_state(
+            self.sender
+                .shared()
+                .call_cold(&mut NoParty, FirstSend { message }),
+        );
         self.state = state;
         answer
     }
@@ -81,7 +89,10 @@ impl<'a, T: Drop, F: Drop, R: Waits, A: Allocator + Copy> SendArm<'a, T, F, R, A
     {
         let (last, signal) = (false, None);
         let shared = self.sender.shared();
-        let (state, answer) = next_state(shared.call_cold(AgainSend { call, last, signal }));
+        let (state, answer) = next_state(shared.call_cold(
+            &mut NoParty,
+            AgainSend { call, last, signal },
+        ));
         self.state = state;
         answer
     }
@@ -91,7 +102,7 @@ impl<'a, T: Drop, F: Drop, R: Waits, A: Allocator + Copy> SendArm<'a, T, F, R, A
     {
         let (last, signal) = (true, None);
         let shared = self.sender.shared();
-        match shared.call_cold(AgainSend { call, last, signal }) {
+        match shared.call_cold(&mut NoParty, AgainSend { call, last, signal }) {
             SendNext::Done(result) => drop(result),
             _ => unreachable!(),
         }

@@ -1,4 +1,4 @@
--- The step was made.
+-- The step was made, by the gate's party.
 use Rattle.std.proofs.Common.{refl}
 use Rattle.flume.proofs.StepLemmas.{one_step, step_made}
 use Rattle.flume.proofs.gate.GateRecvGate.first.Goals as goal
@@ -8,10 +8,5 @@ call_step-requires g c = record { one_step = λ old new answer does. one_step do
 
 pub returns-clause-does : goal.returns-clause-does
 returns-clause-does g c =
-    let turn = c.call_step.ensures in record {
-      same = refl;
-      answers = turn.answers.0;
-      not_refused = turn.answers.1;
-      made =
-          step_made turn.made;
-    }
+    let turn = c.call_step.ensures in
+    (record { same = refl; answers = turn.answers.0; not_refused = turn.answers.1; made = step_made turn.made }, refl, turn.did)

@@ -1,7 +1,9 @@
--- The step was made.
+-- The step was made, by the gate's party.
 use Rattle.std.proofs.Common.{refl}
 use Rattle.flume.proofs.StepLemmas.{step_made}
 use Rattle.flume.proofs.gate.GateRecvGate.park.Goals as goal
 
 pub returns-clause-does : goal.returns-clause-does
-returns-clause-does g c = let turn = c.call_cold.ensures in record { same = refl; answers = turn.answers; made = step_made turn.made }
+returns-clause-does g c =
+    let turn = c.call_cold.ensures in
+    (record { same = refl; answers = turn.answers; made = step_made turn.made }, refl, turn.did)

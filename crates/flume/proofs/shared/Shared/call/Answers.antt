@@ -3,7 +3,7 @@ use Rattle.flume.proofs.shared.Shared.call.Goals as goal
 
 pub returns-clause-made : goal.returns-clause-made
 returns-clause-made g c =
-    let reachable = c.facts.ensures.reachable in
+    let reachable = c.make.ensures.reachable in
     record {
       opening = reachable.0;
       log = reachable.1;

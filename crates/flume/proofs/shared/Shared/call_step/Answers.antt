@@ -6,7 +6,7 @@ make_without_bell-requires-clause-one_step g c = λ new answer does. c.requires.
 
 pub returns-then-no_call_waits-clause-made : goal.returns-then-no_call_waits-clause-made
 returns-then-no_call_waits-clause-made g c =
-    let reachable = c.facts.ensures.reachable in
+    let reachable = c.make_without_bell.ensures.reachable in
     record {
       opening = reachable.0;
       log = reachable.1;
@@ -18,7 +18,7 @@ returns-then-no_call_waits-clause-made g c =
 
 pub returns-clause-made : goal.returns-clause-made
 returns-clause-made g c =
-    let reachable = c.facts.ensures.reachable in
+    let reachable = c.make.ensures.reachable in
     record {
       opening = reachable.0;
       log = reachable.1;

@@ -3,4 +3,4 @@ use Rattle.flume.proofs.StepLemmas.{step_replied}
 use Rattle.flume.proofs.shared.Shared.capacity.Goals as goal
 
 pub returns : goal.returns
-returns g c = record { made = step_replied c.call.ensures.made }
+returns g c = record { made = step_replied c.call_unowned.ensures.made }

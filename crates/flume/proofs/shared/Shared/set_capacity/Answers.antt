@@ -3,8 +3,9 @@ use Rattle.flume.proofs.shared.Shared.set_capacity.Goals as goal
 
 pub returns : goal.returns
 returns g c =
-    let reachable = c.facts.ensures.reachable in
-    let turn = c.make-answer.ensures.call.turn.0 in
+    let made = c.make_unowned-answer.ensures in
+    let reachable = made.reachable in
+    let turn = made.call.turn.0 in
     record {
       made = record {
         opening = reachable.0;

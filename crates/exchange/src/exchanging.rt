@@ -1,0 +1,112 @@
+//! Two threads send through one channel, and two others receive.
+ghost use Rattle.std.specs.Prelude.{◌≡◌, ℕ, List, [], Some, IfOk};
+ghost use Rattle.flume_party.specs.Interleavings.{Interleaving};
+ghost use Rattle.flume_actions.specs.Callers.{HasMadeCalls};
+
+use crate::threads::{Received, receive_all, send_all};
+use flume::Runtime;
+use flume::traced::{ChannelName, ChannelParty, TracedReceiver, TracedSender, UnopenedTrace};
+use std::alloc::Global;
+use std::io;
+use std::io::ErrorKind;
+use std::marker::Brand;
+use std::sync::ledger;
+use std::thread::join;
+
+/// Two threads send a slice each, until both are done.
+fn send_both<J: ChannelName + Send + Sync, R: Runtime>(
+    rt: R,
+    tx: TracedSender<u64, R, J>,
+    parties: (ChannelParty<u64, J>, ChannelParty<u64, J>),
+    first: &[u64],
+    second: &[u64],
+) -> io::Result<(ChannelParty<u64, J>, ChannelParty<u64, J>)>
+    ensures sent { IfOk result (λ r. HasMadeCalls parties.0 r.0 first.now []
+        × HasMadeCalls parties.1 r.1 second.now []) }
+{
+    let (a, b) = parties;
+    let other = tx.clone()?;
+    let (a, b) = join(
+        &rt,
+        || send_all(tx, a, first),
+        || send_all(other, b, second),
+    );
+    Ok((a?, b?))
+}
+
+/// Two threads receive, until nothing more comes.
+fn receive_both<J: ChannelName + Send + Sync, R: Runtime>(
+    rt: R,
+    alloc: Global,
+    rx: TracedReceiver<u64, R, J>,
+    parties: (ChannelParty<u64, J>, ChannelParty<u64, J>),
+) -> io::Result<(Received<R, J>, Received<R, J>)>
+    ensures got { IfOk result (λ r. HasMadeCalls parties.0 r.0.me [] r.0.items.items
+        × HasMadeCalls parties.1 r.1.me [] r.1.items.items) }
+{
+    let (a, b) = parties;
+    let other = rx.clone()?;
+    let (a, b) = join(
+        &rt,
+        || receive_all(rt, alloc, rx, a),
+        || receive_all(rt, alloc, other, b),
+    );
+    Ok((a?, b?))
+}
+
+/// What two threads send and two others receive, over a channel of this name.
+pub fn exchange_named<J: ChannelName + Send + Sync, R: Runtime>(
+    rt: R,
+    alloc: Global,
+    names: UnopenedTrace,
+    parts: ledger::Blank,
+    first: &[u64],
+    second: &[u64],
+) -> io::Result<(Vec<u64>, Vec<u64>)>
+    requires names { (names.trace_name ≡ J.trace_name)
+        × (names.positions_name ≡ J.positions_name) }
+    requires parts { (parts.name ≡ J.name) × (parts.parts ≡ J.parts) × (parts.parts ≡ 5) }
+    requires capacity { J.capacity ≡ Some 4 }
+    ensures exchanged { IfOk result (λ r. (line : List ℕ)
+        × Interleaving first.now second.now line × Interleaving r.0.items r.1.items line) }
+{
+    let (tx, rx, mut all) = flume::on(rt).bounded_traced::<u64, J>(names, parts, 4)?;
+    let senders = (all.split_off(1), all.split_off(1));
+    let receivers = (all.split_off(1), all.split_off(1));
+    let (sent, got) = join(
+        &rt,
+        || send_both(rt, tx, senders, first, second),
+        || receive_both(rt, alloc, rx, receivers),
+    );
+    let (a, b) = sent?;
+    let (left, right) = got?;
+    all.merge(a);
+    all.merge(b);
+    all.merge(left.me);
+    all.merge(right.me);
+    if !left.rx.settle(&mut all) {
+        return Err(io::Error::new(ErrorKind::Other, "messages are left"));
+    }
+    Ok((left.items, right.items))
+}
+
+/// Two threads send a slice each through one channel, and two others receive. All is received,
+/// once, and in an order that keeps both slices' and both receivers'.
+pub fn exchange<R: Runtime>(
+    rt: R,
+    alloc: Global,
+    first: &[u64],
+    second: &[u64],
+) -> io::Result<(Vec<u64>, Vec<u64>)>
+    ensures exchanged { IfOk result (λ r. (line : List ℕ)
+        × Interleaving first.now second.now line × Interleaving r.0.items r.1.items line) }
+{
+    exchange_named::<Brand, R>(
+        rt,
+        alloc,
+        UnopenedTrace::new(),
+        ledger::Blank::new(5),
+        first,
+        second,
+    )
+}

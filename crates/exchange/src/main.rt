@@ -1,0 +1,22 @@
+//! Programs of threads and channels of which it is proved what comes out, whatever the schedule.
+#![tactic(auto)]
+
+mod exchanging;
+mod piping;
+mod threads;
+
+use exchanging::exchange;
+use piping::pipeline;
+use std::io;
+
+fn main(rt: HostRuntime) -> io::Result<()> {
+    let first = [1, 2, 3, 4, 5, 6, 7, 8];
+    let second = [100, 200, 300, 400, 500];
+    let (mut all, right) = exchange(rt, rt.alloc(), &first, &second)?;
+    all.extend_from_slice(&right)?;
+    all.sort()?;
+    println!(rt; "what was exchanged: {all:?}")?;
+    let halves = pipeline(rt, rt.alloc(), &second)?;
+    println!(rt; "the halves, in order: {halves:?}")?;
+    Ok(())
+}

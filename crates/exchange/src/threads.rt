@@ -1,0 +1,79 @@
+//! What a thread does with an end of a channel, and with a party of its own.
+ghost use Rattle.std.specs.Prelude.{[], IfOk};
+ghost use Rattle.flume_actions.specs.Callers.{HasMadeCalls};
+ghost use Rattle.exchange.specs.Halving.{HasHalved};
+
+use flume::traced::{ChannelName, ChannelParty, TracedReceiver, TracedSender};
+use flume::{RecvError, Waits};
+use std::alloc::Global;
+use std::io;
+
+/// What a thread received, and by which end and party.
+#[derive(Drop)]
+pub struct Received<R: Waits, J: ChannelName> {
+    pub rx: TracedReceiver<u64, R, J>,
+    pub me: ChannelParty<u64, J>,
+    pub items: Vec<u64>,
+}
+
+/// What a thread halved from one channel into another with, but for the sender.
+#[derive(Drop)]
+pub struct Halved<R: Waits, J: ChannelName, K: ChannelName> {
+    pub rx: TracedReceiver<u64, R, J>,
+    pub reader: ChannelParty<u64, J>,
+    pub writer: ChannelParty<u64, K>,
+}
+
+/// Sends each item, and drops the sender.
+pub fn send_all<R: Waits, J: ChannelName>(
+    tx: TracedSender<u64, R, J>,
+    mut me: ChannelParty<u64, J>,
+    items: &[u64],
+) -> io::Result<ChannelParty<u64, J>>
+    ensures sent { IfOk result (λ party. HasMadeCalls me party items.now []) }
+{
+    for item in items {
+        tx.send(&mut me, *item)?;
+    }
+    Ok(me)
+}
+
+/// Receives until all senders are dropped, and nothing is left.
+pub fn receive_all<R: Waits, J: ChannelName>(
+    rt: R,
+    alloc: Global,
+    rx: TracedReceiver<u64, R, J>,
+    mut me: ChannelParty<u64, J>,
+) -> io::Result<Received<R, J>>
+    ensures got { IfOk result (λ r. HasMadeCalls me r.me [] r.items.items) }
+{
+    let mut items = Vec::new(alloc);
+    for _ in rt.forever() {
+        match rx.recv(&mut me) {
+            Ok(item) => items.push(item)?,
+            Err(RecvError::Disconnected) => return Ok(Received { rx, me, items }),
+            Err(error) => return Err(error.into()),
+        }
+    }
+    unreachable!()
+}
+
+/// Sends half of each number that it receives, until all senders of those are dropped.
+pub fn halve_all<R: Waits, J: ChannelName, K: ChannelName>(
+    rt: R,
+    rx: TracedReceiver<u64, R, J>,
+    tx: TracedSender<u64, R, K>,
+    mut reader: ChannelParty<u64, J>,
+    mut writer: ChannelParty<u64, K>,
+) -> io::Result<Halved<R, J, K>>
+    ensures halved { IfOk result (λ r. HasHalved reader r.reader writer r.writer) }
+{
+    for _ in rt.forever() {
+        match rx.recv(&mut reader) {
+            Ok(number) => tx.send(&mut writer, number / 2)?,
+            Err(RecvError::Disconnected) => return Ok(Halved { rx, reader, writer }),
+            Err(error) => return Err(error.into()),
+        }
+    }
+    unreachable!()
+}

@@ -1,0 +1,234 @@
+//! Ends whose calls say what they did in this very channel.
+//!
+//! Each call takes a *party*, `me`, which knows its own actions and has no bytes. A program splits
+//! off a party for each thread, and merges them again. Who has all parts knows by `settle` that its
+//! actions are all that was done to the channel: so what its threads sent is what they received.
+//! ```
+//! let names = UnopenedTrace::new();
+//! let parts = ledger::Blank::new(2);
+//! let (tx, rx, mut me) = flume::on(rt).bounded_traced::<u64, Brand>(names, parts, 4)?;
+//! let mut other = me.split_off(1);
+//! tx.send(&mut me, 7)?;
+//! assert_eq!(rt; rx.recv(&mut other), Ok(7));
+//! me.merge(other);
+//! assert!(rt; rx.settle(&mut me));
+//! ```
+//! These ends share each line of code with the others: what a call does is one function, of any
+//! keeper. They have no calls of many messages, no iterators, futures and selections yet.
+ghost use Rattle.std.specs.Prelude.{◌≡◌, ◌≢◌, ◌<◌, [], IfOk, Err, Some, None};
+ghost use Rattle.flume_model.specs.declared.step.Step.TheVariants.{TrySend, TryRecv, Drain};
+ghost use Rattle.flume_calls.specs.ReceiveTurns.{after_try_recv};
+ghost use Rattle.flume_calls.specs.SendTurns.{after_try_send};
+ghost use Rattle.flume_deadline.specs.declared.Deadline.{Deadline};
+ghost use Rattle.flume_deadline.specs.Deadlines.{IsAfter};
+ghost use Rattle.flume_party.specs.Parties.{party_of};
+ghost use Rattle.flume_actions.specs.Actions.{IsWhole};
+ghost use Rattle.flume_actions.specs.Calls.{HasCalled, HasSent, HasReceived, HasStepped};
+ghost use Rattle.flume_actions.specs.Calls.{sent_by, got_by, drained_by};
+ghost use Rattle.flume.specs.CallSteps as answer;
+ghost use Rattle.flume.specs.GateSteps.{Receives, Sends};
+ghost use Rattle.flume.specs.Iterators.{after_drain};
+
+use crate::builder::Builder;
+use crate::drain::Drain as Drained;
+use crate::opening;
+use crate::receiver::Receiver;
+use crate::sender::Sender;
+use crate::shared::Waits;
+use flume_core::error::{
+    NoMemory, RecvError, RecvTimeoutError, SendError, SendTimeoutError, TryRecvError, TrySendError,
+};
+use flume_deadline::Deadline;
+pub use flume_keeper::{ChannelName, ChannelParty, Traced};
+pub use flume_trace::UnopenedTrace;
+use std::alloc::{Allocator, Global};
+use std::sync::ledger;
+use std::time::{Duration, Instant};
+
+/// A sender of a channel that keeps a trace.
+pub type TracedSender<T, R, J, A = Global> = Sender<T, R, A, Traced<T, A, J>>;
+
+/// A receiver of a channel that keeps a trace.
+pub type TracedReceiver<T, R, J, A = Global> = Receiver<T, R, A, Traced<T, A, J>>;
+
+/// The ends of a channel that keeps a trace, and the party with all parts.
+pub type TracedEnds<T, R, J, A = Global> = (
+    TracedSender<T, R, J, A>,
+    TracedReceiver<T, R, J, A>,
+    ChannelParty<T, J, A>,
+);
+
+impl<R: Waits, A: Allocator + Copy> Builder<R, A> {
+    /// As `bounded`, with a trace.
+    pub fn bounded_traced<T: Drop, J: ChannelName>(
+        self,
+        names: UnopenedTrace,
+        parts: ledger::Blank,
+        capacity: usize,
+    ) -> Result<TracedEnds<T, R, J, A>, NoMemory>
+        requires names { (names.trace_name ≡ J.trace_name)
+            × (names.positions_name ≡ J.positions_name) }
+        requires parts { (parts.name ≡ J.name) × (parts.parts ≡ J.parts) }
+        requires some { 0 < parts.parts }
+        requires capacity { J.capacity ≡ Some capacity }
+        ensures sender { IfOk result (λ ends. ends.0 ≡ self.number) }
+        ensures receiver { IfOk result (λ ends. ends.1 ≡ self.number) }
+        ensures party { IfOk result (λ ends. ends.2 ≡ party_of J.parts []) }
+    {
+        let (traced, me) = Traced::open(names, parts);
+        let (rt, alloc, id) = self.into_parts();
+        let (tx, rx) = opening::ends(rt, alloc, id, Some(capacity), traced)?;
+        Ok((tx, rx, me))
+    }
+
+    /// As `unbounded`, with a trace.
+    pub fn unbounded_traced<T: Drop, J: ChannelName>(
+        self,
+        names: UnopenedTrace,
+        parts: ledger::Blank,
+    ) -> Result<TracedEnds<T, R, J, A>, NoMemory>
+        requires names { (names.trace_name ≡ J.trace_name)
+            × (names.positions_name ≡ J.positions_name) }
+        requires parts { (parts.name ≡ J.name) × (parts.parts ≡ J.parts) }
+        requires some { 0 < parts.parts }
+        requires capacity { J.capacity ≡ None }
+        ensures sender { IfOk result (λ ends. ends.0 ≡ self.number) }
+        ensures receiver { IfOk result (λ ends. ends.1 ≡ self.number) }
+        ensures party { IfOk result (λ ends. ends.2 ≡ party_of J.parts []) }
+    {
+        let (traced, me) = Traced::open(names, parts);
+        let (rt, alloc, id) = self.into_parts();
+        let (tx, rx) = opening::ends(rt, alloc, id, None, traced)?;
+        Ok((tx, rx, me))
+    }
+}
+
+impl<T: Drop, R: Waits, A: Allocator + Copy, J: ChannelName> Sender<T, R, A, Traced<T, A, J>> {
+    /// As of a sender without a trace. One step: the message was sent, or refused.
+    pub fn try_send(
+        &self,
+        me: &mut ChannelParty<T, J, A>,
+        message: T,
+    ) -> Result<(), TrySendError<T>>
+        ensures called { HasCalled me.old me.new (sent_by message result) [] }
+        ensures made { HasStepped (TrySend message) after_try_send me.old
+            (answer.try_send_as_turn result) me.new }
+        ensures full { (back : T) → result ≡ Err (TrySendError.Full back) → back ≡ message }
+        ensures disconnected { (back : T) → result ≡ Err (TrySendError.Disconnected back)
+            → back ≡ message }
+        ensures no_memory { (back : T) → result ≡ Err (TrySendError.NoMemory back)
+            → back ≡ message }
+    {
+        self.try_send_as(me, message)
+    }
+
+    /// As of a sender without a trace. The steps are a send's, with this result.
+    pub fn send(&self, me: &mut ChannelParty<T, J, A>, message: T) -> Result<(), SendError<T>>
+        ensures called { HasCalled me.old me.new (sent_by message result) [] }
+        ensures made { HasSent me.old message me.new (answer.send_as_timed result) }
+        ensures no_memory { (back : T) → result ≡ Err (SendError.NoMemory back) → back ≡ message }
+    {
+        self.send_as(me, message)
+    }
+
+    /// As of a sender without a trace. The steps are a send's, with this result.
+    pub fn send_deadline(
+        &self,
+        me: &mut ChannelParty<T, J, A>,
+        message: T,
+        deadline: Instant,
+    ) -> Result<(), SendTimeoutError<T>>
+        ensures called { HasCalled me.old me.new (sent_by message result) [] }
+        ensures made { HasSent me.old message me.new result }
+        ensures sends { Sends A (Deadline.At deadline) message result }
+        ensures no_memory { (back : T) → result ≡ Err (SendTimeoutError.NoMemory back)
+            → back ≡ message }
+    {
+        self.send_until(me, message, Deadline::At(deadline))
+    }
+
+    /// As of a sender without a trace. The steps are a send's, with this result.
+    pub fn send_timeout(
+        &self,
+        me: &mut ChannelParty<T, J, A>,
+        message: T,
+        timeout: Duration,
+    ) -> Result<(), SendTimeoutError<T>>
+        ensures called { HasCalled me.old me.new (sent_by message result) [] }
+        ensures made { HasSent me.old message me.new result }
+        ensures sends { (deadline : Deadline) × IsAfter timeout deadline
+            × Sends A deadline message result }
+        ensures no_memory { (back : T) → result ≡ Err (SendTimeoutError.NoMemory back)
+            → back ≡ message }
+    {
+        let deadline = Deadline::after(&self.shared().rt, timeout);
+        self.send_until(me, message, deadline)
+    }
+}
+
+impl<T: Drop, R: Waits, A: Allocator + Copy, J: ChannelName> Receiver<T, R, A, Traced<T, A, J>> {
+    /// As of a receiver without a trace. One step: a message was got, or none was there.
+    pub fn try_recv(&self, me: &mut ChannelParty<T, J, A>) -> Result<T, TryRecvError>
+        ensures called { HasCalled me.old me.new [] (got_by result) }
+        ensures made { HasStepped TryRecv after_try_recv me.old
+            (answer.try_receive_as_turn result) me.new }
+        ensures never_no_memory { result ≢ Err TryRecvError.NoMemory }
+    {
+        self.try_recv_as(me)
+    }
+
+    /// As of a receiver without a trace. The steps are a receive's, with this result.
+    pub fn recv(&self, me: &mut ChannelParty<T, J, A>) -> Result<T, RecvError>
+        ensures called { HasCalled me.old me.new [] (got_by result) }
+        ensures made { HasReceived me.old me.new (answer.receive_as_timed result) }
+    {
+        self.recv_as(me)
+    }
+
+    /// As of a receiver without a trace. The steps are a receive's, with this result.
+    pub fn recv_deadline(
+        &self,
+        me: &mut ChannelParty<T, J, A>,
+        deadline: Instant,
+    ) -> Result<T, RecvTimeoutError>
+        ensures called { HasCalled me.old me.new [] (got_by result) }
+        ensures made { HasReceived me.old me.new result }
+        ensures receives { Receives A (Deadline.At deadline) result }
+    {
+        self.recv_until(me, Deadline::At(deadline))
+    }
+
+    /// As of a receiver without a trace. The steps are a receive's, with this result.
+    pub fn recv_timeout(
+        &self,
+        me: &mut ChannelParty<T, J, A>,
+        timeout: Duration,
+    ) -> Result<T, RecvTimeoutError>
+        ensures called { HasCalled me.old me.new [] (got_by result) }
+        ensures made { HasReceived me.old me.new result }
+        ensures receives { (deadline : Deadline) × IsAfter timeout deadline
+            × Receives A deadline result }
+    {
+        let deadline = Deadline::after(&self.shared().rt, timeout);
+        self.recv_until(me, deadline)
+    }
+
+    /// As of a receiver without a trace. One step.
+    pub fn drain(&self, me: &mut ChannelParty<T, J, A>) -> Result<Drained<'_, T, A>, NoMemory>
+        ensures called { HasCalled me.old me.new [] (drained_by result) }
+        ensures made { HasStepped Drain after_drain me.old result me.new }
+    {
+        self.drain_as(me)
+    }
+
+    /// For whoever has all parts. It changes nothing, and answers whether no message is queued or
+    /// blocked, and an end lives. Its clause says that the actions of `me` are all that sent or
+    /// received on this channel since it was opened, and that each reply was the abstract channel's.
+    pub fn settle(&self, me: &mut ChannelParty<T, J, A>) -> bool
+        requires whole { me.old.parts ≡ J.parts }
+        ensures party { me.new ≡ me.old }
+        ensures whole { IsWhole J.capacity me.old.actions result }
+    {
+        self.shared().settle(me)
+    }
+}
