@@ -2,7 +2,8 @@
 //!
 //! Each call takes a *party*, `me`, which knows its own actions and has no bytes. A program splits
 //! off a party for each thread, and merges them again. Who has all parts knows by `settle` that its
-//! actions are all that was done to the channel: so what its threads sent is what they received.
+//! actions are all that sent or received there. If it answers true, `what_was_sent_is_what_was_got`
+//! of `flume_actions` says: what its threads sent is what they received.
 //! ```
 //! let names = UnopenedTrace::new();
 //! let parts = ledger::Blank::new(2);
@@ -13,8 +14,8 @@
 //! me.merge(other);
 //! assert!(rt; rx.settle(&mut me));
 //! ```
-//! These ends share each line of code with the others: what a call does is one function, of any
-//! keeper. They have no calls of many messages, no iterators, futures and selections yet.
+//! What a call does is one function, of these ends and of the others. These have no calls of many
+//! messages, no iterators, futures and selections yet. Clones, drops and queries take no party.
 ghost use Rattle.std.specs.Prelude.{◌≡◌, ◌≢◌, ◌<◌, [], IfOk, Err, Some, None};
 ghost use Rattle.flume_model.specs.declared.step.Step.TheVariants.{TrySend, TryRecv, Drain};
 ghost use Rattle.flume_calls.specs.ReceiveTurns.{after_try_recv};
