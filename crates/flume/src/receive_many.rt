@@ -15,9 +15,9 @@ use flume_calls::calls::{
     AgainReceive, FirstReceiveMany, ManyNext, ParkReceive, ReceiveAndMore, RecvCall, RecvNext,
 };
 use flume_calls::gates::{RecvGate, recv_over};
-use flume_calls::turn::Turn;
 use flume_core::error::{RecvError, RecvTimeoutError, TryRecvError};
 use flume_deadline::Deadline;
+use flume_keeper::{MessageTurn, NoParty};
 use flume_model::step::Kind;
 use std::alloc::Allocator;
 use std::mem::replace;
@@ -54,7 +54,7 @@ impl<T: Drop, R: Waits, A: Allocator + Copy> Receiver<T, R, A> {
         let list = replace(buffer, Vec::new(self.shared().alloc));
         let ManyNext { buffer: list, next } = self
             .shared()
-            .call_many(FirstReceiveMany { buffer: list, most });
+            .call_many(&mut NoParty, FirstReceiveMany { buffer: list, most });
         *buffer = list;
         try_receive_answer(next)
     }
@@ -170,7 +170,7 @@ impl<T: Drop, R: Waits, A: Allocator + Copy> ManyGate<'_, T, R, A> {
     #[inline(never)]
     fn receive_and_more<C>(&mut self, turn: C) -> RecvNext<usize>
     where
-        C: Turn<T, Signal<A>, A, Answer = RecvNext<T>> + Drop,
+        C: MessageTurn<T, Signal<A>, A, Answer = RecvNext<T>> + Drop,
         requires room { vec_len self.old.buffer < vec_capacity self.old.buffer }
         ensures deadline { self.new.deadline ≡ self.old.deadline }
         ensures most { self.new.most ≡ self.old.most }
@@ -183,7 +183,7 @@ impl<T: Drop, R: Waits, A: Allocator + Copy> ManyGate<'_, T, R, A> {
         let more = self.most - 1;
         let ManyNext { buffer, next } = self
             .shared
-            .call_many(ReceiveAndMore { turn, buffer, more });
+            .call_many(&mut NoParty, ReceiveAndMore { turn, buffer, more });
         self.buffer = buffer;
         next
     }
@@ -229,7 +229,7 @@ impl<T: Drop, R: Waits, A: Allocator + Copy> RecvGate<usize> for ManyGate<'_, T,
     fn first(&mut self) -> RecvNext<usize> {
         let buffer = replace(&mut self.buffer, Vec::new(self.shared.alloc));
         let most = self.most;
-        let ManyNext { buffer, next } = self.shared.call_many(FirstReceiveMany { buffer, most });
+        let ManyNext { buffer, next } = self.shared.call_many(&mut NoParty, FirstReceiveMany { buffer, most });
         self.buffer = buffer;
         next
     }

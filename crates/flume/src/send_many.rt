@@ -18,6 +18,7 @@ use crate::shared::Waits;
 use flume_calls::calls::{SendMany, SendNext};
 use flume_core::error::{SendError, SendTimeoutError, TrySendError};
 use flume_deadline::Deadline;
+use flume_keeper::NoParty;
 use flume_model::step::Step;
 use std::alloc::Allocator;
 use std::collections::VecDeque;
@@ -42,7 +43,7 @@ impl<T: Drop, R: Waits, A: Allocator + Copy> Sender<T, R, A> {
             → IsRest messages.items rest.items }
     {
         let messages = VecDeque::from_vec(messages);
-        try_send_many_answer(self.shared().call_many(SendMany { messages }))
+        try_send_many_answer(self.shared().call_many(&mut NoParty, SendMany { messages }))
     }
 
     /// Sends messages in order, as `send` does. Messages of other senders may come between. An
@@ -125,7 +126,7 @@ impl<T: Drop, R: Waits, A: Allocator + Copy> Sender<T, R, A> {
     {
         let mut left = VecDeque::from_vec(messages);
         while !left.is_empty() {
-            left = match self.shared().call_many(SendMany { messages: left }) {
+            left = match self.shared().call_many(&mut NoParty, SendMany { messages: left }) {
                 Ok(()) => return Ok(()),
                 Err(TrySendError::Full(full)) => match self.send_first_until(full, deadline) {
                     Ok(behind) => behind,

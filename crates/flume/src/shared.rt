@@ -19,7 +19,6 @@ use flume_calls::due::Bell;
 use flume_calls::locked::Locked;
 use flume_calls::polled::Polled;
 use flume_calls::single::SetCapacity;
-use flume_calls::turn::Turn;
 use flume_core::error::CapacityError;
 use flume_keeper::{
     ChannelName, ChannelParty, EndTurn, Keeper, Kept, MessageTurn, NoTrace, Traced,
@@ -189,6 +188,20 @@ impl<T: Drop, R: Waits, A: Allocator + Copy, K: Keeper<T, A>> Shared<T, R, A, K>
         self.call(me, turn)
     }
 
+    // Of several steps. Not inlined, since it isn't called for one message.
+    #[inline(never)]
+    pub(crate) fn call_many<C: MessageTurn<T, Signal<A>, A>>(
+        &self,
+        me: &mut K::Party,
+        turn: C,
+    ) -> C::Answer
+        ensures answers { C.answers turn result }
+        ensures made { HasDone A (C.does turn) result }
+        ensures did { Did K.did (C.makes turn) me.old result me.new }
+    {
+        self.call(me, turn)
+    }
+
     #[inline(always)]
     pub(crate) fn call_unowned<C: EndTurn<T, Signal<A>, A>>(&self, turn: C) -> C::Answer
         ensures answers { C.answers turn result }
@@ -200,17 +213,6 @@ impl<T: Drop, R: Waits, A: Allocator + Copy, K: Keeper<T, A>> Shared<T, R, A, K>
 }
 
 impl<T: Drop, R: Waits, A: Allocator + Copy> Shared<T, R, A> {
-    #[inline(never)]
-    pub(crate) fn call_many<C: Turn<T, Signal<A>, A>>(&self, turn: C) -> C::Answer
-        ensures answers { C.answers turn result }
-        ensures made { HasDone A (C.does turn) result }
-    {
-        let mut guard = self.lock();
-        let locked = &mut guard.locked;
-        locked.facts();
-        locked.make(turn, &mut SignalBell { rt: self.rt })
-    }
-
     #[inline(always)]
     pub(crate) fn poll<P: Polled<T, Signal<A>, A>>(
         &self,

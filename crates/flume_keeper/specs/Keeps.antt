@@ -2,6 +2,7 @@
 use Rattle.std.specs.Prelude.{ℕ, List, Option, reverse}
 use Rattle.flume_model.specs.Log.{Log, Opening, opens}
 use Rattle.flume_state.specs.State.{State}
+use Rattle.flume_model.specs.Replies.{IsRun}
 use Rattle.flume_core.specs.Represents.{Represents}
 use Rattle.flume_party.specs.Owners.{AreOwned, AreUnowned}
 use Rattle.flume_calls.specs.Batches.{log_after}
@@ -16,6 +17,13 @@ module _ {T A S N : Type 0} where
     pub answered : makes made answer
     pub leads : (opening : Opening) (log : Log T A) → Represents opening log old
         → Represents opening (log_after log made) new
+
+module _ {T A : Type 0} where
+  -- some channel's run goes on with these steps and replies
+  pub record SomeRunGoesOn (steps : List (Action T A)) : Type 0 where
+    pub opening : Opening
+    pub log : Log T A
+    pub run : IsRun opening (log_after log steps)
 
 module _ {T A S : Type 0} where
   -- a channel that was opened with the capacity is in the state after these actions

@@ -1,2 +1,3 @@
 pub mod Keeps
 pub mod Moves
+pub mod ManyMoves

@@ -3,6 +3,7 @@ ghost use Rattle.std.specs.Prelude.{List};
 ghost use Rattle.flume_model.specs.declared.step.Step.{Step};
 ghost use Rattle.flume_model.specs.declared.step.Reply.{Reply};
 ghost use Rattle.flume_model.specs.Log.{Log, Opening};
+ghost use Rattle.flume_core.specs.Represents.{IsReachable};
 ghost use Rattle.flume_keeper.specs.Keeps.{Did, HasMade, LogsOf};
 
 use crate::turns::{EndTurn, MessageTurn};
@@ -38,6 +39,7 @@ pub trait Keeper<T, A: Allocator>: Drop {
     )
         requires made { HasMade (C.makes turn.now.turn.value) turn.now.before.value
             turn.now.after.value turn.now.answer.value }
+        requires reachable { IsReachable A turn.now.before.value }
         requires fits { fits self.old (LogsOf turn.now.before.value) }
         ensures fits { fits self.new (LogsOf turn.now.after.value) }
         ensures did { Did did (C.makes turn.now.turn.value) party.old turn.now.answer.value

@@ -1,4 +1,5 @@
 //! A keeper that keeps nothing.
+ghost use Rattle.flume_keeper.specs.Keeps.{SomeRunGoesOn};
 
 use crate::keeper::{Keeper, Made};
 use crate::turns::{EndTurn, MessageTurn};
@@ -18,7 +19,8 @@ impl<T, A: Allocator> Keeper<T, A> for NoTrace {
 
     ghost fits = { λ _ _. Unit {0} };
 
-    ghost did = { λ _ _ _. Unit {0} };
+    // Of a channel without a trace a contract can say this only of some channel.
+    ghost did = { λ _ steps _. SomeRunGoesOn {T = T} {A = A} steps };
 
     #[inline(always)]
     fn keep<S, C: MessageTurn<T, S, A>>(

@@ -1,7 +1,10 @@
 //! Which turns are a party's.
 ghost use Rattle.flume_keeper.specs.Keeps.{MovesMessages, MovesNone};
 
-use flume_calls::calls::{AgainReceive, AgainSend, FirstReceive, FirstSend, ParkReceive, ParkSend};
+use flume_calls::calls::{
+    AgainReceive, AgainSend, FirstReceive, FirstReceiveMany, FirstSend, MoreReceives, ParkReceive,
+    ParkSend, ReceiveAndMore, RecvNext, SendMany,
+};
 use flume_calls::single::{CapacityQuery, CountQuery, DrainQueue, EndStep, FlagQuery, SetCapacity};
 use flume_calls::turn::Turn;
 use std::alloc::Allocator;
@@ -61,6 +64,36 @@ impl<T: Drop, S: Drop, A: Allocator + Copy> MessageTurn<T, S, A> for DrainQueue 
     ghost use Rattle.flume_keeper.specs.Moves.{step_moves};
 
     ghost moves = { λ turn. step_moves (λ i. true) };
+}
+
+impl<T: Drop, S: Drop, A: Allocator + Copy> MessageTurn<T, S, A> for SendMany<T, A> {
+    ghost use Rattle.flume_keeper.specs.ManyMoves.{sends_move};
+
+    ghost moves = { λ turn made answer made_by. sends_move made_by };
+}
+
+impl<T: Drop, S: Drop, A: Allocator + Copy> MessageTurn<T, S, A> for FirstReceiveMany<T, A> {
+    ghost use Rattle.flume_keeper.specs.ManyMoves.{first_many_moves};
+
+    ghost moves = { λ turn made answer made_by. first_many_moves made_by };
+}
+
+impl<T: Drop, S: Drop, A: Allocator + Copy> MessageTurn<T, S, A> for MoreReceives<T, A> {
+    ghost use Rattle.flume_keeper.specs.ManyMoves.{takes_move};
+
+    ghost moves = { λ turn made answer made_by. takes_move made_by };
+}
+
+impl<T, S, A, C> MessageTurn<T, S, A> for ReceiveAndMore<C, T, A>
+where
+    T: Drop,
+    S: Drop,
+    A: Allocator + Copy,
+    C: MessageTurn<T, S, A, Answer = RecvNext<T>>,
+{
+    ghost use Rattle.flume_keeper.specs.ManyMoves.{more_moves};
+
+    ghost moves = { λ turn. more_moves (C.moves turn.turn) };
 }
 
 impl<T: Drop, S: Drop, A: Allocator + Copy> EndTurn<T, S, A> for EndStep {
