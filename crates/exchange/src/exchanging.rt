@@ -1,16 +1,15 @@
 //! Two threads send through one channel, and two others receive.
-ghost use Rattle.std.specs.Prelude.{◌≡◌, ℕ, List, [], Some, IfOk};
+ghost use Rattle.std.specs.Prelude.{◌≡◌, ℕ, List, [], IfOk};
 ghost use Rattle.flume_party.specs.Interleavings.{Interleaving};
 ghost use Rattle.flume_actions.specs.Callers.{HasMadeCalls};
 
 use crate::threads::{Received, receive_all, send_all};
 use flume::Runtime;
-use flume::traced::{ChannelName, ChannelParty, TracedReceiver, TracedSender, UnopenedTrace};
+use flume::traced::{ChannelName, ChannelParty, TracedReceiver, TracedSender, UnopenedChannel};
 use std::alloc::Global;
 use std::io;
 use std::io::ErrorKind;
 use std::marker::Brand;
-use std::sync::ledger;
 use std::thread::join;
 
 /// Two threads send a slice each, until both are done.
@@ -58,19 +57,16 @@ fn receive_both<J: ChannelName + Send + Sync, R: Runtime>(
 pub fn exchange_named<J: ChannelName + Send + Sync, R: Runtime>(
     rt: R,
     alloc: Global,
-    names: UnopenedTrace,
-    parts: ledger::Blank,
+    channel: UnopenedChannel,
     first: &[u64],
     second: &[u64],
 ) -> io::Result<(Vec<u64>, Vec<u64>)>
-    requires names { (names.trace_name ≡ J.trace_name)
-        × (names.positions_name ≡ J.positions_name) }
-    requires parts { (parts.name ≡ J.name) × (parts.parts ≡ J.parts) × (parts.parts ≡ 5) }
-    requires capacity { J.capacity ≡ Some 4 }
+    requires named { channel ≡ J.identity }
+    requires parts { channel.parts ≡ 5 }
     ensures exchanged { IfOk result (λ r. (line : List ℕ)
         × Interleaving first.now second.now line × Interleaving r.0.items r.1.items line) }
 {
-    let (tx, rx, mut all) = flume::on(rt).bounded_traced::<u64, J>(names, parts, 4)?;
+    let (tx, rx, mut all) = flume::on(rt).traced::<u64, J>(channel)?;
     let senders = (all.split_off(1), all.split_off(1));
     let receivers = (all.split_off(1), all.split_off(1));
     let (sent, got) = join(
@@ -101,12 +97,6 @@ pub fn exchange<R: Runtime>(
     ensures exchanged { IfOk result (λ r. (line : List ℕ)
         × Interleaving first.now second.now line × Interleaving r.0.items r.1.items line) }
 {
-    exchange_named::<Brand, R>(
-        rt,
-        alloc,
-        UnopenedTrace::new(),
-        ledger::Blank::new(5),
-        first,
-        second,
-    )
+    let channel = UnopenedChannel::bounded(4, 5);
+    exchange_named::<Brand, R>(rt, alloc, channel, first, second)
 }

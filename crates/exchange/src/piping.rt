@@ -1,16 +1,15 @@
 //! Two threads in a row: one sends numbers, one halves them into a second channel.
-ghost use Rattle.std.specs.Prelude.{◌≡◌, [], Some, None, IfOk};
+ghost use Rattle.std.specs.Prelude.{◌≡◌, [], IfOk};
 ghost use Rattle.flume_actions.specs.Callers.{HasMadeCalls};
 ghost use Rattle.exchange.specs.Halving.{halves, HasHalved};
 
 use crate::threads::{Halved, Received, halve_all, receive_all, send_all};
 use flume::Runtime;
-use flume::traced::{ChannelName, ChannelParty, TracedReceiver, TracedSender, UnopenedTrace};
+use flume::traced::{ChannelName, ChannelParty, TracedReceiver, TracedSender, UnopenedChannel};
 use std::alloc::Global;
 use std::io;
 use std::io::ErrorKind;
 use std::marker::Brand;
-use std::sync::ledger;
 use std::thread::join;
 
 /// One thread sends the numbers, the next one sends the half of each.
@@ -39,31 +38,24 @@ where
     Ok((sent?, halved?))
 }
 
-/// The halves of the numbers, over two channels of these names.
+/// The halves of the numbers, over these two channels.
 pub fn pipeline_named<R, J, K>(
     rt: R,
     alloc: Global,
-    first: (UnopenedTrace, ledger::Blank),
-    second: (UnopenedTrace, ledger::Blank),
+    first: UnopenedChannel,
+    second: UnopenedChannel,
     numbers: &[u64],
 ) -> io::Result<Vec<u64>>
 where
     R: Runtime,
     J: ChannelName + Send + Sync,
     K: ChannelName + Send + Sync,
-    requires first_names { (first.0.trace_name ≡ J.trace_name)
-        × (first.0.positions_name ≡ J.positions_name) }
-    requires first_parts { (first.1.name ≡ J.name) × (first.1.parts ≡ J.parts)
-        × (first.1.parts ≡ 3) }
-    requires second_names { (second.0.trace_name ≡ K.trace_name)
-        × (second.0.positions_name ≡ K.positions_name) }
-    requires second_parts { (second.1.name ≡ K.name) × (second.1.parts ≡ K.parts)
-        × (second.1.parts ≡ 3) }
-    requires capacities { (J.capacity ≡ Some 4) × (K.capacity ≡ None) }
+    requires named { (first ≡ J.identity) × (second ≡ K.identity) }
+    requires parts { (first.parts ≡ 3) × (second.parts ≡ 3) }
     ensures halved { IfOk result (λ v. v.items ≡ halves numbers.now) }
 {
-    let (tx, rx, mut left) = flume::on(rt).bounded_traced::<u64, J>(first.0, first.1, 4)?;
-    let (to, from, mut right) = flume::on(rt).unbounded_traced::<u64, K>(second.0, second.1)?;
+    let (tx, rx, mut left) = flume::on(rt).traced::<u64, J>(first)?;
+    let (to, from, mut right) = flume::on(rt).traced::<u64, K>(second)?;
     let parties = (left.split_off(1), left.split_off(1));
     let (writer, collector) = (right.split_off(1), right.split_off(1));
     let ran = send_halves(rt, (tx, rx), to, parties, writer, numbers)?;
@@ -84,7 +76,7 @@ where
 pub fn pipeline<R: Runtime>(rt: R, alloc: Global, numbers: &[u64]) -> io::Result<Vec<u64>>
     ensures halved { IfOk result (λ v. v.items ≡ halves numbers.now) }
 {
-    let first = (UnopenedTrace::new(), ledger::Blank::new(3));
-    let second = (UnopenedTrace::new(), ledger::Blank::new(3));
+    let first = UnopenedChannel::bounded(4, 3);
+    let second = UnopenedChannel::unbounded(3);
     pipeline_named::<R, Brand, Brand>(rt, alloc, first, second, numbers)
 }

@@ -229,7 +229,9 @@ impl<T: Drop, R: Waits, A: Allocator + Copy> RecvGate<usize> for ManyGate<'_, T,
     fn first(&mut self) -> RecvNext<usize> {
         let buffer = replace(&mut self.buffer, Vec::new(self.shared.alloc));
         let most = self.most;
-        let ManyNext { buffer, next } = self.shared.call_many(&mut NoParty, FirstReceiveMany { buffer, most });
+        let ManyNext { buffer, next } = self
+            .shared
+            .call_many(&mut NoParty, FirstReceiveMany { buffer, most });
         self.buffer = buffer;
         next
     }

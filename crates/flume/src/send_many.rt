@@ -126,7 +126,10 @@ impl<T: Drop, R: Waits, A: Allocator + Copy> Sender<T, R, A> {
     {
         let mut left = VecDeque::from_vec(messages);
         while !left.is_empty() {
-            left = match self.shared().call_many(&mut NoParty, SendMany { messages: left }) {
+            left = match self
+                .shared()
+                .call_many(&mut NoParty, SendMany { messages: left })
+            {
                 Ok(()) => return Ok(()),
                 Err(TrySendError::Full(full)) => match self.send_first_until(full, deadline) {
                     Ok(behind) => behind,

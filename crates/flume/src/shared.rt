@@ -253,9 +253,9 @@ impl<T: Drop, R: Waits, A: Allocator + Copy> Shared<T, R, A> {
 
 impl<T: Drop, R: Waits, A: Allocator + Copy, J: ChannelName> Shared<T, R, A, Traced<T, A, J>> {
     pub(crate) fn settle(&self, me: &mut ChannelParty<T, J, A>) -> bool
-        requires whole { me.old.parts ≡ J.parts }
+        requires whole { me.old.parts ≡ J.identity.parts }
         ensures party { me.new ≡ me.old }
-        ensures whole { IsWhole J.capacity me.old.actions result }
+        ensures whole { IsWhole J.identity.capacity me.old.actions result }
     {
         self.lock().settle(me)
     }

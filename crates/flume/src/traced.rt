@@ -5,9 +5,8 @@
 //! actions are all that sent or received there. If it answers true, `what_was_sent_is_what_was_got`
 //! of `flume_actions` says: what its threads sent is what they received.
 //! ```
-//! let names = UnopenedTrace::new();
-//! let parts = ledger::Blank::new(2);
-//! let (tx, rx, mut me) = flume::on(rt).bounded_traced::<u64, Brand>(names, parts, 4)?;
+//! let channel = UnopenedChannel::bounded(4, 2);
+//! let (tx, rx, mut me) = flume::on(rt).traced::<u64, Brand>(channel)?;
 //! let mut other = me.split_off(1);
 //! tx.send(&mut me, 7)?;
 //! assert_eq!(rt; rx.recv(&mut other), Ok(7));
@@ -16,7 +15,7 @@
 //! ```
 //! What a call does is one function, of these ends and of the others. These have no calls of many
 //! messages, no iterators, futures and selections yet. Clones, drops and queries take no party.
-ghost use Rattle.std.specs.Prelude.{◌≡◌, ◌≢◌, ◌<◌, [], IfOk, Err, Some, None};
+ghost use Rattle.std.specs.Prelude.{◌≡◌, ◌≢◌, ◌<◌, [], IfOk, Err};
 ghost use Rattle.flume_model.specs.declared.step.Step.TheVariants.{TrySend, TryRecv, Drain};
 ghost use Rattle.flume_calls.specs.ReceiveTurns.{after_try_recv};
 ghost use Rattle.flume_calls.specs.SendTurns.{after_try_send};
@@ -40,10 +39,8 @@ use flume_core::error::{
     NoMemory, RecvError, RecvTimeoutError, SendError, SendTimeoutError, TryRecvError, TrySendError,
 };
 use flume_deadline::Deadline;
-pub use flume_keeper::{ChannelName, ChannelParty, Traced};
-pub use flume_trace::UnopenedTrace;
+pub use flume_keeper::{ChannelName, ChannelParty, Traced, UnopenedChannel};
 use std::alloc::{Allocator, Global};
-use std::sync::ledger;
 use std::time::{Duration, Instant};
 
 /// A sender of a channel that keeps a trace.
@@ -60,46 +57,22 @@ pub type TracedEnds<T, R, J, A = Global> = (
 );
 
 impl<R: Waits, A: Allocator + Copy> Builder<R, A> {
-    /// As `bounded`, with a trace.
-    pub fn bounded_traced<T: Drop, J: ChannelName>(
+    /// Opens a channel that keeps a trace: its ends, and the party with all parts. `NoMemory`: it
+    /// couldn't be allocated.
+    pub fn traced<T: Drop, J: ChannelName>(
         self,
-        names: UnopenedTrace,
-        parts: ledger::Blank,
-        capacity: usize,
+        channel: UnopenedChannel,
     ) -> Result<TracedEnds<T, R, J, A>, NoMemory>
-        requires names { (names.trace_name ≡ J.trace_name)
-            × (names.positions_name ≡ J.positions_name) }
-        requires parts { (parts.name ≡ J.name) × (parts.parts ≡ J.parts) }
-        requires some { 0 < parts.parts }
-        requires capacity { J.capacity ≡ Some capacity }
+        requires named { channel ≡ J.identity }
+        requires some { 0 < channel.parts }
         ensures sender { IfOk result (λ ends. ends.0 ≡ self.number) }
         ensures receiver { IfOk result (λ ends. ends.1 ≡ self.number) }
-        ensures party { IfOk result (λ ends. ends.2 ≡ party_of J.parts []) }
+        ensures party { IfOk result (λ ends. ends.2 ≡ party_of channel.parts []) }
     {
-        let (traced, me) = Traced::open(names, parts);
+        let capacity = channel.capacity();
+        let (traced, me) = Traced::open(channel);
         let (rt, alloc, id) = self.into_parts();
-        let (tx, rx) = opening::ends(rt, alloc, id, Some(capacity), traced)?;
-        Ok((tx, rx, me))
-    }
-
-    /// As `unbounded`, with a trace.
-    pub fn unbounded_traced<T: Drop, J: ChannelName>(
-        self,
-        names: UnopenedTrace,
-        parts: ledger::Blank,
-    ) -> Result<TracedEnds<T, R, J, A>, NoMemory>
-        requires names { (names.trace_name ≡ J.trace_name)
-            × (names.positions_name ≡ J.positions_name) }
-        requires parts { (parts.name ≡ J.name) × (parts.parts ≡ J.parts) }
-        requires some { 0 < parts.parts }
-        requires capacity { J.capacity ≡ None }
-        ensures sender { IfOk result (λ ends. ends.0 ≡ self.number) }
-        ensures receiver { IfOk result (λ ends. ends.1 ≡ self.number) }
-        ensures party { IfOk result (λ ends. ends.2 ≡ party_of J.parts []) }
-    {
-        let (traced, me) = Traced::open(names, parts);
-        let (rt, alloc, id) = self.into_parts();
-        let (tx, rx) = opening::ends(rt, alloc, id, None, traced)?;
+        let (tx, rx) = opening::ends(rt, alloc, id, capacity, traced)?;
         Ok((tx, rx, me))
     }
 }
@@ -226,9 +199,9 @@ impl<T: Drop, R: Waits, A: Allocator + Copy, J: ChannelName> Receiver<T, R, A, T
     /// blocked, and an end lives. Its clause says that the actions of `me` are all that sent or
     /// received on this channel since it was opened, and that each reply was the abstract channel's.
     pub fn settle(&self, me: &mut ChannelParty<T, J, A>) -> bool
-        requires whole { me.old.parts ≡ J.parts }
+        requires whole { me.old.parts ≡ J.identity.parts }
         ensures party { me.new ≡ me.old }
-        ensures whole { IsWhole J.capacity me.old.actions result }
+        ensures whole { IsWhole J.identity.capacity me.old.actions result }
     {
         self.shared().settle(me)
     }

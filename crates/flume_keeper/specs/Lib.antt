@@ -1,3 +1,4 @@
 pub mod Keeps
 pub mod Moves
 pub mod ManyMoves
+pub mod Identities

@@ -13,6 +13,12 @@ use Rattle.flume_party.specs.Owners.{AreOwned}
 use Rattle.flume_actions.specs.Actions.{Action, is_of_party}
 use Rattle.flume_keeper.specs.Keeps.{MovesMessages}
 
+-- receives that got these
+pub each_got_moves : {T : Type 0} (A : Type 0) (taken : List T)
+    → AreOwned {E = Action T A} is_of_party (each_got taken)
+each_got_moves A [] = refl
+each_got_moves A (message ∷ taken) = each_got_moves A taken
+
 module _ {T A : Type 0} where
   -- sends of a list
   pub sends_move : {messages : List T} {made : List (Action T A)}
@@ -24,15 +30,10 @@ module _ {T A : Type 0} where
   sends_move (sends.IsClosed is) = refl
   sends_move (sends.IsRefused is) = refl
 
-  -- receives that got these
-  pub each_got_moves : (taken : List T) → AreOwned {E = Action T A} is_of_party (each_got taken)
-  each_got_moves [] = refl
-  each_got_moves (message ∷ taken) = each_got_moves taken
-
   -- receives of what is there
   pub takes_move : {before after : List T} {made : List (Action T A)} {count : ℕ}
       → BatchTakes before made after count → AreOwned is_of_party made
-  takes_move takes = subst (AreOwned is_of_party) (sym takes.steps) (each_got_moves takes.taken)
+  takes_move takes = subst (AreOwned is_of_party) (sym takes.steps) (each_got_moves A takes.taken)
 
   -- a first receive of many
   pub first_many_moves : {before after : List T} {made : List (Action T A)} {next : RecvNext ℕ}
@@ -63,4 +64,4 @@ module _ {T A : Type 0} where
   more_moves moves made answer all =
       subst (AreOwned is_of_party) (sym all.steps)
       (both_move all.first_made (each_got all.taken) (moves all.first_made all.first all.answered)
-      (each_got_moves all.taken))
+      (each_got_moves A all.taken))

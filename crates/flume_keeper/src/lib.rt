@@ -9,9 +9,11 @@ mod no_trace;
 mod settle;
 mod traced;
 mod turns;
+mod unopened;
 
 pub use keeper::{Keeper, Made};
 pub use kept::Kept;
 pub use no_trace::{NoParty, NoTrace};
-pub use traced::{ChannelName, ChannelParty, MessageMoves, Traced};
+pub use traced::{ChannelName, ChannelParty, MessageMoves, NamesOf, Traced};
 pub use turns::{EndTurn, MessageTurn};
+pub use unopened::UnopenedChannel;

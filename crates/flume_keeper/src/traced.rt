@@ -4,26 +4,44 @@ ghost use Rattle.flume_party.specs.Parties.{party_of};
 
 use crate::keeper::{Keeper, Made};
 use crate::turns::{EndTurn, MessageTurn};
+use crate::unopened::UnopenedChannel;
 use flume_calls::locked::Locked;
 use flume_model::step::{Reply, Step};
 use flume_party::{Ownership, Party, Records, SharedTrace};
-use flume_trace::{TraceName, UnopenedTrace};
+use flume_trace::TraceName;
 use std::alloc::{Allocator, Global};
 use std::marker::{Brand, Model, PhantomData};
-use std::sync::ledger::{self, Ledger};
+use std::sync::ledger::Ledger;
 
-/// Which channel it is, and the capacity that it is opened with. A function over any
-/// `J: ChannelName` is called with `Brand`, and the caller's proof picks what it stands for.
-pub trait ChannelName: TraceName + Ledger {
-    ghost use Rattle.std.specs.Prelude.{ℕ, Option};
+/// Which channel it is, among those of a program. A function over any `J: ChannelName` is called with
+/// `Brand`, and the caller's proof picks the identity of the `UnopenedChannel` that it passes.
+pub trait ChannelName {
+    ghost use Rattle.flume_keeper.specs.Identities.{ChannelIdentity};
 
-    ghost capacity: { Option ℕ };
+    ghost identity: { ChannelIdentity };
 }
 
 impl ChannelName for Brand {
-    ghost use Rattle.std.specs.Prelude.{None};
+    ghost use Rattle.flume_keeper.specs.Identities.{no_identity};
 
-    ghost capacity = { None };
+    ghost identity = { no_identity };
+}
+
+/// The names of a channel's trace, and of the parts of its parties.
+pub struct NamesOf<J> {
+    of: PhantomData<J>,
+}
+
+impl<J: ChannelName> TraceName for NamesOf<J> {
+    ghost trace_name = { J.identity.trace_name };
+
+    ghost positions_name = { J.identity.positions_name };
+}
+
+impl<J: ChannelName> Ledger for NamesOf<J> {
+    ghost name = { J.identity.parts_name };
+
+    ghost parts = { J.identity.parts };
 }
 
 /// The steps that move messages are parties'; the others are nobody's.
@@ -36,7 +54,7 @@ impl<T, A: Allocator> Ownership<(Step<T>, Reply<T, A>)> for MessageMoves {
 }
 
 /// One who sends and receives, and knows what it did.
-pub type ChannelParty<T, J, A = Global> = Party<(Step<T>, Reply<T, A>), J, MessageMoves>;
+pub type ChannelParty<T, J, A = Global> = Party<(Step<T>, Reply<T, A>), NamesOf<J>, MessageMoves>;
 
 /// The steps of the turn are recorded, and lead to the channel after it.
 struct TurnMade<T, S, A, J> {
@@ -51,7 +69,7 @@ impl<T, S, A: Allocator, J: ChannelName, C: MessageTurn<T, S, A>> Records<
     ghost use Rattle.flume_keeper.specs.Keeps.{LeadsTo};
 
     ghost may = { λ turn before steps. C.makes turn.turn.value steps turn.answer.value
-        × LeadsTo J.capacity (before ++ steps) turn.after.value };
+        × LeadsTo J.identity.capacity (before ++ steps) turn.after.value };
 }
 
 /// The same of a turn of nobody.
@@ -67,13 +85,13 @@ impl<T, S, A: Allocator, J: ChannelName, C: EndTurn<T, S, A>> Records<
     ghost use Rattle.flume_keeper.specs.Keeps.{LeadsTo};
 
     ghost may = { λ turn before steps. C.makes turn.turn.value steps turn.answer.value
-        × LeadsTo J.capacity (before ++ steps) turn.after.value };
+        × LeadsTo J.identity.capacity (before ++ steps) turn.after.value };
 }
 
 /// All that was done to the channel. Contracts see a list of actions, the oldest first.
 #[derive(Drop)]
 pub struct Traced<T, A: Allocator, J: ChannelName> {
-    pub(crate) trace: SharedTrace<(Step<T>, Reply<T, A>), J, MessageMoves>,
+    pub(crate) trace: SharedTrace<(Step<T>, Reply<T, A>), NamesOf<J>, MessageMoves>,
 }
 
 impl<T, A: Allocator, J: ChannelName> Model for Traced<T, A, J> {
@@ -87,15 +105,14 @@ impl<T, A: Allocator, J: ChannelName> Model for Traced<T, A, J> {
 
 impl<T, A: Allocator, J: ChannelName> Traced<T, A, J> {
     /// Nothing was done yet. The party has all parts.
-    pub fn open(names: UnopenedTrace, parts: ledger::Blank) -> (Self, ChannelParty<T, J, A>)
-        requires names { (names.trace_name ≡ J.trace_name)
-            × (names.positions_name ≡ J.positions_name) }
-        requires parts { (parts.name ≡ J.name) × (parts.parts ≡ J.parts) }
-        requires some { 0 < parts.parts }
+    pub fn open(channel: UnopenedChannel) -> (Self, ChannelParty<T, J, A>)
+        requires named { channel ≡ J.identity }
+        requires some { 0 < channel.parts }
         ensures empty { result.0 ≡ [] }
-        ensures whole { result.1 ≡ party_of J.parts [] }
+        ensures whole { result.1 ≡ party_of J.identity.parts [] }
     {
-        let (trace, party) = SharedTrace::open(names, parts);
+        let UnopenedChannel { trace, parts, .. } = channel;
+        let (trace, party) = SharedTrace::open(trace, parts);
         (Traced { trace }, party)
     }
 }
@@ -107,7 +124,7 @@ impl<T, A: Allocator, J: ChannelName> Keeper<T, A> for Traced<T, A, J> {
 
     type Party = ChannelParty<T, J, A>;
 
-    ghost fits = { λ traced logs. logs (opens J.capacity 1) (reverse traced) };
+    ghost fits = { λ traced logs. logs (opens J.identity.capacity 1) (reverse traced) };
 
     ghost did = { λ old steps new. new ≡ and_made old steps };
 

@@ -8,7 +8,7 @@ record_unowned-requires g c =
     record {
       some = (
         made.made,
-        (made.answered, leads_on g.J.ChannelName.capacity c.self.inside.trace made (rw c.self.view_is c.requires.fits)),
+        (made.answered, leads_on g.J.ChannelName.identity.capacity c.self.inside.trace made (rw c.self.view_is c.requires.fits)),
         g.met.C.EndTurn.moves _ _ _ made.answered,
       );
     }
