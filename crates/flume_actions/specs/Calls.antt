@@ -1,5 +1,6 @@
 -- The actions of a party as whole calls: what they sent, and what they got.
 use Rattle.std.specs.Prelude.{◌≡◌, List, [], ◌∷◌, ◌++◌, Vec, Option, Result, Ok, Err}
+use Rattle.flume_model.specs.declared.step.Kind.{Kind}
 use Rattle.flume_model.specs.declared.step.Step.{Step}
 use Rattle.flume_model.specs.declared.step.Step.TheVariants.{TrySend, TryRecv, Drain}
 use Rattle.flume_model.specs.declared.step.Reply.{Reply}
@@ -14,8 +15,8 @@ use Rattle.flume_calls.specs.SendTurns.{after_try_send}
 use Rattle.flume_calls.specs.ReceiveTurns.{after_try_recv}
 use Rattle.flume_party.specs.Parties.{PartyState, and_made}
 use Rattle.flume_actions.specs.Actions.{Action}
-use Rattle.flume_actions.specs.SendCalls.{IsSend}
-use Rattle.flume_actions.specs.ReceiveCalls.{IsReceive}
+use Rattle.flume_actions.specs.SendCalls.{IsSend, IsPolledSend}
+use Rattle.flume_actions.specs.ReceiveCalls.{IsReceive, IsPolledReceive}
 
 module _ {T : Type 0} where
   -- what a send with this result sent
@@ -50,10 +51,15 @@ module _ {T A : Type 0} where
         → IsSend message made result → IsCall made (sent_by message result) []
     TriesToSend : {message : T} {reply : Reply T A} (next : SendNext T) → after_try_send reply next
         → IsCall ((TrySend message, reply) ∷ []) (sent_by_try message next) []
+    PollsToSend : {message : T} {made : List (Action T A)}
+        {result : Result (Unit {0}) (SendTimeoutError T)}
+        → IsPolledSend message made result → IsCall made (sent_by message result) []
     Receives : {made : List (Action T A)} {result : Result T RecvTimeoutError}
         → IsReceive made result → IsCall made [] (got_by result)
     TriesToReceive : {reply : Reply T A} (next : RecvNext T) → after_try_recv reply next
         → IsCall ((TryRecv, reply) ∷ []) [] (got_by_try next)
+    PollsToReceive : {kind : Kind} {made : List (Action T A)} {result : Result T RecvTimeoutError}
+        → IsPolledReceive kind made result → IsCall made [] (got_by result)
     Drains : {messages : Vec T A} → IsCall ((Drain, Drained messages) ∷ []) [] messages.items
     DrainsNone : {back : Option T} → IsCall ((Drain, NoMemory back) ∷ []) [] []
 

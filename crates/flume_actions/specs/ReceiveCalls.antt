@@ -1,5 +1,6 @@
 -- The actions of a call that receives, in their order, and its result.
 use Rattle.std.specs.Prelude.{ℕ, List, [], ◌∷◌, Result, Err}
+use Rattle.flume_model.specs.declared.step.Kind.{Kind}
 use Rattle.flume_model.specs.declared.step.Kind.TheVariants.{Block}
 use Rattle.flume_model.specs.declared.step.Step.TheVariants.{TryRecv, Recv, Poll, Withdraw}
 use Rattle.flume_model.specs.declared.step.Reply.{Reply}
@@ -45,3 +46,31 @@ module _ {T A : Type 0} where
         → after_try_recv empty NeedSignal → after_recv reply (Park ticket)
         → IsParkedReceive ticket later result
         → IsReceive ((TryRecv, empty) ∷ (Recv Block, reply) ∷ later) result
+
+  -- what a receive that is polled does, parked under this ticket, until it ends: it asks at each
+  -- poll, and may withdraw; a poll that runs out of memory leaves it parked
+  pub data IsParkedPolls (ticket : ℕ)
+      : List (Action T A) → Result T RecvTimeoutError → Type 0 where
+    Answered : {reply : Reply T A} {result : Result T RecvTimeoutError}
+        → after_poll ticket reply (Done result)
+        → IsParkedPolls ticket ((Poll ticket, reply) ∷ []) result
+    Left : {reply : Reply T A} {result : Result T RecvTimeoutError}
+        → after_withdraw reply (Done result)
+        → IsParkedPolls ticket ((Withdraw ticket, reply) ∷ []) result
+    Pending : {reply : Reply T A} {later : List (Action T A)} {result : Result T RecvTimeoutError}
+        → after_poll ticket reply (Park ticket) → IsParkedPolls ticket later result
+        → IsParkedPolls ticket ((Poll ticket, reply) ∷ later) result
+    OutOfMemory : {reply : Reply T A} {later : List (Action T A)}
+        {result : Result T RecvTimeoutError}
+        → after_poll ticket reply (next.Refused ticket) → IsParkedPolls ticket later result
+        → IsParkedPolls ticket ((Poll ticket, reply) ∷ later) result
+
+  -- what a receive of this kind does that is polled with a signal: it ends at once, or parks
+  pub data IsPolledReceive (kind : Kind)
+      : List (Action T A) → Result T RecvTimeoutError → Type 0 where
+    AtOnce : {reply : Reply T A} {result : Result T RecvTimeoutError}
+        → after_recv reply (Done result) → IsPolledReceive kind ((Recv kind, reply) ∷ []) result
+    Polled : {reply : Reply T A} {ticket : ℕ} {later : List (Action T A)}
+        {result : Result T RecvTimeoutError}
+        → after_recv reply (Park ticket) → IsParkedPolls ticket later result
+        → IsPolledReceive kind ((Recv kind, reply) ∷ later) result

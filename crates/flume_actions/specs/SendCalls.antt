@@ -40,3 +40,28 @@ module _ {T A : Type 0} where
         → after_try_send full (NeedSignal message) → after_send reply (Park ticket)
         → IsBlockedSend ticket later result
         → IsSend message ((TrySend message, full) ∷ (Send message, reply) ∷ later) result
+
+  -- what a send that is polled does, blocked under this ticket, until it ends: it asks at each
+  -- poll, and may withdraw
+  pub data IsBlockedPolls (ticket : ℕ)
+      : List (Action T A) → Result (Unit {0}) (SendTimeoutError T) → Type 0 where
+    Answered : {reply : Reply T A} {result : Result (Unit {0}) (SendTimeoutError T)}
+        → after_poll_send ticket reply (Done result)
+        → IsBlockedPolls ticket ((PollSend ticket, reply) ∷ []) result
+    Left : {reply : Reply T A} {result : Result (Unit {0}) (SendTimeoutError T)}
+        → after_withdraw_send reply (Done result)
+        → IsBlockedPolls ticket ((WithdrawSend ticket, reply) ∷ []) result
+    Pending : {reply : Reply T A} {later : List (Action T A)}
+        {result : Result (Unit {0}) (SendTimeoutError T)}
+        → after_poll_send ticket reply (Park ticket) → IsBlockedPolls ticket later result
+        → IsBlockedPolls ticket ((PollSend ticket, reply) ∷ later) result
+
+  -- what a send of the message does that is polled with a signal: it ends at once, or blocks
+  pub data IsPolledSend (message : T)
+      : List (Action T A) → Result (Unit {0}) (SendTimeoutError T) → Type 0 where
+    AtOnce : {reply : Reply T A} {result : Result (Unit {0}) (SendTimeoutError T)}
+        → after_send reply (Done result) → IsPolledSend message ((Send message, reply) ∷ []) result
+    Polled : {reply : Reply T A} {ticket : ℕ} {later : List (Action T A)}
+        {result : Result (Unit {0}) (SendTimeoutError T)}
+        → after_send reply (Park ticket) → IsBlockedPolls ticket later result
+        → IsPolledSend message ((Send message, reply) ∷ later) result
