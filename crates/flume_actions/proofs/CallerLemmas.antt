@@ -1,11 +1,7 @@
 -- What callers cite: calls one after the other, and parties that become one again.
 use Rattle.std.proofs.Common.{◌≡◌, ℕ, true, List, [], ◌∷◌, ◌++◌, Option}
-use Rattle.std.proofs.Common.{refl, ap, sym, subst, ◌∙◌, append_assoc}
-use Rattle.std.specs.Prelude.{reverse}
+use Rattle.std.proofs.Common.{ap, sym, subst, ◌∙◌, append_assoc}
 use Rattle.std.proofs.lemmas.List.{append-nil}
-use Rattle.flume_model.specs.Log.{opens}
-use Rattle.flume_model.specs.Offers.{kept}
-use Rattle.flume_model.specs.Line.{messages}
 use Rattle.flume_party.specs.Interleavings.{Interleaving}
 use Rattle.flume_party.specs.Parties.{PartyState, party_of, and_made, Merged}
 use Rattle.flume_party.proofs.InterleavingLemmas.{interleaved_alone, interleaved_swap}
@@ -14,8 +10,8 @@ use Rattle.flume_actions.specs.Calls.{AreCalls, NoCalls, AndCall, HasCalled}
 use Rattle.flume_actions.specs.Callers.{HasMadeCalls}
 use Rattle.flume_actions.specs.Together.{Interleaved, AreExchanged}
 use Rattle.flume_actions.specs.Together.{EachAreCalls, NoParty, AndParty}
-use Rattle.flume_actions.proofs.SentOrderLemmas.{sent_in_order}
-use Rattle.flume_actions.proofs.GotInOrderLemmas.{got_all}
+use Rattle.flume_actions.proofs.MergeLemmas.{leave_out}
+use Rattle.flume_actions.proofs.ExchangeLemmas.{exchange}
 
 module _ {X : Type 0} where
   -- one list alone is in order
@@ -29,13 +25,6 @@ module _ {X : Type 0} where
   two_in_order {xs = xs} {ys = ys} {line = line} merged =
       interleaved_swap ys xs line (subst (λ other. Interleaving ys other line)
       (one_in_order merged.1) merged.2)
-
-  -- an empty list may be left out
-  pub leave_out : (lists : List (List X)) (line : List X) → Interleaved ([] ∷ lists) line
-      → Interleaved lists line
-  leave_out lists line merged =
-      subst (Interleaved lists) (sym (interleaved_alone merged.0 line
-      (interleaved_swap [] merged.0 line merged.2))) merged.1
 
 module _ {T A : Type 0} where
   -- no call yet
@@ -157,17 +146,9 @@ module _ {T A : Type 0} where
   pub exchanged : {party : PartyState (Action T A)} {sents gots : List (List T)}
       {capacity : Option ℕ} → HasTakenIn party sents gots → IsWhole capacity party.actions true
       → AreExchanged sents gots
-  exchanged {capacity = capacity} all whole =
-      let opening = opens capacity 1 in
-      let left = whole.left refl in
-      let merged = subst (Interleaved all.parties) whole.all all.merged in
-      let line : List T = messages (kept (reverse whole.history)) in (
-        line,
-        all.sent line (sent_in_order opening whole.history all.parties all.all_sents all.all_gots
-            whole.run merged all.calls),
-        all.got line (got_all opening whole.history all.parties all.all_sents all.all_gots
-            whole.run left.1 left.0 merged all.calls),
-      )
+  exchanged all whole =
+      let both = exchange all.merged all.calls whole in
+      (both.0, all.sent both.0 both.1, all.got both.0 both.2)
 
 module _ {T : Type 0} where
   -- one sender and one receiver

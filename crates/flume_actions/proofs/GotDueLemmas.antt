@@ -3,29 +3,19 @@ use Rattle.std.proofs.Common.{◌≡◌, ℕ, Bool, true, false, List, [], ◌�
 use Rattle.std.proofs.Common.{refl, ap, sym, subst, ◌∙◌, arith}
 use Rattle.std.proofs.lemmas.List.{append-nil, append_assoc}
 use Rattle.flume_model.specs.Log.{is_ticket}
-use Rattle.flume_party.specs.Interleavings.{Interleaving, End, Left, Right}
+use Rattle.flume_party.specs.Interleavings.{Interleaving, End}
 use Rattle.flume_actions.specs.Together.{Interleaved}
-use Rattle.flume_actions.proofs.GotTurnLemmas.{Course}
+use Rattle.flume_actions.proofs.MergeLemmas.{left_all, right_all}
+use Rattle.flume_actions.proofs.TurnLemmas.{parked_of, Course}
 use Rattle.flume_actions.proofs.GotMemberLemmas.{Member, actions_of, parked_under, here}
 use Rattle.flume_actions.proofs.GotMemberLemmas.{none_merged}
-
-module _ {X : Type 0} where
-  -- a list in front of the first of two
-  left_all : (w xs ys zs : List X) → Interleaving xs ys zs → Interleaving (w ++ xs) ys (w ++ zs)
-  left_all [] xs ys zs rest = rest
-  left_all (x ∷ w) xs ys zs rest = Left (left_all w xs ys zs rest)
-
-  -- and of the second
-  right_all : (w xs ys zs : List X) → Interleaving xs ys zs → Interleaving xs (w ++ ys) (w ++ zs)
-  right_all [] xs ys zs rest = rest
-  right_all (x ∷ w) xs ys zs rest = Right (right_all w xs ys zs rest)
 
 module _ {T A : Type 0} where
   -- each party gets what was handed to it before, and then this
   abbrev pub AreDue : (Option ℕ → List T) → List (Member T A) → List (List T) → Type 0
   AreDue held [] [] = Unit {0}
   AreDue held (m ∷ members) (due ∷ dues) =
-      (m.got ≡ held m.parked ++ due) × AreDue held members dues
+      (m.got ≡ held (parked_of m.stand) ++ due) × AreDue held members dues
   AreDue held _ _ = ⊥
 
   -- the messages are what will be handed out, to each party what it gets and wasn't handed before
@@ -37,7 +27,7 @@ module _ {T A : Type 0} where
 
   -- none were before the others
   due_cons : (held : Option ℕ → List T) (m : Member T A) (members : List (Member T A))
-      (due others line : List T) → m.got ≡ held m.parked ++ due → Due held members others
+      (due others line : List T) → m.got ≡ held (parked_of m.stand) ++ due → Due held members others
       → Interleaving due others line → Due held (m ∷ members) line
   due_cons held m members due others line got rest merged = record {
     dues = due ∷ rest.dues;
@@ -50,7 +40,7 @@ module _ {T A : Type 0} where
       (line : List T) : Type 0 where
     pub due : List T
     pub others : List T
-    pub got : m.got ≡ held m.parked ++ due
+    pub got : m.got ≡ held (parked_of m.stand) ++ due
     pub rest : Due held members others
     pub merged : Interleaving due others line
 
@@ -71,15 +61,15 @@ module _ {T A : Type 0} where
 
   -- one party gets more, some of it handed to it before, and some now
   pub due_more : (held : Option ℕ → List T) (before after : List (Member T A)) (m n : Member T A)
-      (now own line : List T) → m.got ≡ now ++ n.got → now ++ held n.parked ≡ held m.parked ++ own
+      (now own line : List T) → m.got ≡ now ++ n.got → now ++ held (parked_of n.stand) ≡ held (parked_of m.stand) ++ own
       → Due held (before ++ n ∷ after) line → Due held (before ++ m ∷ after) (own ++ line)
   due_more held [] after m n now own line got same d =
       let s = split held n after line d in
       let due = got
       ∙ (ap (λ list. now ++ list) s.got
-      ∙ (sym (append_assoc now (held n.parked) s.due)
+      ∙ (sym (append_assoc now (held (parked_of n.stand)) s.due)
       ∙ (ap (λ list. list ++ s.due) same
-      ∙ append_assoc (held m.parked) own s.due))) in
+      ∙ append_assoc (held (parked_of m.stand)) own s.due))) in
       due_cons held m after (own ++ s.due) s.others (own ++ line) due s.rest
       (left_all own s.due s.others line s.merged)
   due_more held (x ∷ before) after m n now own line got same d =
@@ -96,9 +86,9 @@ module _ {T A : Type 0} where
       record { dues = d.dues; each = d.each; merged = d.merged }
   same_else t held new (m ∷ members) line same none d =
       let s = split new m members line d in
-      let other : is_ticket t m.parked ≡ false = grind (arith, none) in
+      let other : is_ticket t (parked_of m.stand) ≡ false = grind (arith, none) in
       due_cons held m members s.due s.others line
-      (s.got ∙ ap (λ list. list ++ s.due) (same m.parked other))
+      (s.got ∙ ap (λ list. list ++ s.due) (same (parked_of m.stand) other))
       (same_else t held new members s.others same (omega (arith, none)) s.rest) s.merged
 
   -- the party parked under the ticket was filled with the message
@@ -110,10 +100,10 @@ module _ {T A : Type 0} where
       → parked_under t members ≡ 1 → Due new members line → Due held members (filled ++ line)
   due_filled t held new filled [] line same is one d = absurd (omega (arith, one))
   due_filled t held new filled (m ∷ members) line same is one d =
-      by_case (is_ticket t m.parked) refl (split new m members line d)
+      by_case (is_ticket t (parked_of m.stand)) refl (split new m members line d)
       (due_filled t held new filled members)
     where
-      by_case : (b : Bool) → is_ticket t m.parked ≡ b → Split new m members line
+      by_case : (b : Bool) → is_ticket t (parked_of m.stand) ≡ b → Split new m members line
           → ((others : List T)
           → ((parked : Option ℕ) → is_ticket t parked ≡ false → new parked ≡ held parked)
           → ((parked : Option ℕ) → is_ticket t parked ≡ true
@@ -123,14 +113,14 @@ module _ {T A : Type 0} where
       by_case true own s deeper =
           let none : parked_under t members ≡ 0 = grind (arith, own, one) in
           due_cons held m members (filled ++ s.due) s.others (filled ++ line)
-          (s.got ∙ (ap (λ list. list ++ s.due) (is m.parked own).0
-          ∙ ap (λ list. list ++ (filled ++ s.due)) (sym (is m.parked own).1)))
+          (s.got ∙ (ap (λ list. list ++ s.due) (is (parked_of m.stand) own).0
+          ∙ ap (λ list. list ++ (filled ++ s.due)) (sym (is (parked_of m.stand) own).1)))
           (same_else t held new members s.others same none s.rest)
           (left_all filled s.due s.others line s.merged)
       by_case false other s deeper =
           let others : parked_under t members ≡ 1 = grind (arith, other, one) in
           due_cons held m members s.due (filled ++ s.others) (filled ++ line)
-          (s.got ∙ ap (λ list. list ++ s.due) (same m.parked other))
+          (s.got ∙ ap (λ list. list ++ s.due) (same (parked_of m.stand) other))
           (deeper s.others same is others s.rest) (right_all filled s.due s.others line s.merged)
 
   -- parties with nothing to do get nothing
@@ -146,9 +136,9 @@ module _ {T A : Type 0} where
           → Due held members [] × ((t : ℕ) → parked_under t members ≡ 0))
           → Due held (m ∷ members) [] × ((t : ℕ) → parked_under t (m ∷ members) ≡ 0)
       by_parts both deeper =
-          let over = subst (λ list. Course list m.parked m.got) both.0 m.course in
+          let over = subst (λ list. Course list m.stand m.sent m.got) both.0 m.course in
           let rest = deeper (subst (Interleaved (actions_of members)) both.1 merged.1) in
-          let empty = ap held (sym over.0) ∙ sym (append-nil (held m.parked)) in (
-            due_cons held m members [] [] [] (over.1 ∙ (sym none ∙ empty)) rest.0 End,
-            λ t. (let none_here = ap (here t) over.0 in omega (arith, none_here, rest.1 t)),
+          let empty = ap (λ stand. held (parked_of stand)) (sym over.0) ∙ sym (append-nil (held (parked_of m.stand))) in (
+            due_cons held m members [] [] [] (over.2 ∙ (sym none ∙ empty)) rest.0 End,
+            λ t. (let none_here = ap (λ stand. here t (parked_of stand)) over.0 in omega (arith, none_here, rest.1 t)),
           )

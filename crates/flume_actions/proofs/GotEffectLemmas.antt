@@ -15,8 +15,8 @@ use Rattle.flume_model.specs.Channel.{channel}
 use Rattle.flume_model.specs.Replies.{IsReply}
 use Rattle.flume_model.proofs.AskingCaseLemmas.{polled_cases, gone_cases}
 use Rattle.flume_model.proofs.EntryChangeLemmas.{fills}
-use Rattle.flume_actions.proofs.GotTurnLemmas.{gets}
-use Rattle.flume_actions.proofs.GotTurnLemmas.{is_unparked}
+use Rattle.flume_actions.proofs.TurnLemmas.{gets}
+use Rattle.flume_actions.proofs.TurnLemmas.{is_unparked}
 use Rattle.flume_actions.proofs.GotMemberLemmas.{here}
 use Rattle.flume_actions.proofs.GotEntryLemmas.{leaver, parker}
 

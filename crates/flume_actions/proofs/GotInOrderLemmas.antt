@@ -1,13 +1,13 @@
 -- What parties got is what was handed out, in its order.
 use Rattle.std.proofs.Common.{◌≡◌, ℕ, zero, suc, Bool, false, List, [], ◌∷◌, ◌++◌, length, take}
 use Rattle.std.proofs.Common.{drop}
-use Rattle.std.proofs.Common.{Option, Some, None, refl, ap, sym, subst, ◌∙◌, arith, filter}
+use Rattle.std.proofs.Common.{Option, Some, None, refl, ap, sym, subst, ◌∙◌, arith}
 use Rattle.std.proofs.lemmas.List.{append-nil, append_assoc, take-append-drop}
 use Rattle.std.proofs.lemmas.Grind.{common_steps, flat_map-append}
 use Rattle.std.specs.Prelude.{reverse}
 use Rattle.std.specs.List.{flat_map, slice_get}
 use mathlib.Core.List.{reverse_aux}
-use Rattle.flume_model.specs.Log.{Log, Opening, Offer, HandOut, Shown, FilledIn, change}
+use Rattle.flume_model.specs.Log.{Log, Opening, Offer, HandOut, Shown, FilledIn, change, was_filled}
 use Rattle.flume_model.specs.Offers.{hands_out, handed_out, hand_outs, kept}
 use Rattle.flume_model.specs.Counts.{is_over}
 use Rattle.flume_model.specs.Line.{messages, line}
@@ -17,14 +17,15 @@ use Rattle.flume_model.specs.Parked.{entries}
 use Rattle.flume_model.specs.Replies.{IsRun}
 use Rattle.flume_model.proofs.fills.FillsOrderLemmas.{in_order}
 use Rattle.flume_model.proofs.order.KeptLemmas.{line_is_open}
-use Rattle.flume_actions.specs.Actions.{Action, is_of_party}
-use Rattle.flume_actions.specs.Together.{Interleaved, EachAreCalls, NoParty, AndParty}
+use Rattle.flume_actions.specs.Actions.{Action}
+use Rattle.flume_actions.specs.Together.{Interleaved}
+use Rattle.flume_actions.proofs.TurnLemmas.{Free, parked_of}
+use Rattle.flume_actions.proofs.PartyLemmas.{EachCourse, NoCourse, AndCourse}
 use Rattle.flume_actions.proofs.GotMemberLemmas.{Member, actions_of, parked_under}
 use Rattle.flume_actions.proofs.GotDueLemmas.{AreDue}
 use Rattle.flume_actions.proofs.GotEntryLemmas.{stands, held_stands}
-use Rattle.flume_actions.proofs.GotEffectLemmas.{as_list, final}
+use Rattle.flume_actions.proofs.GotEffectLemmas.{as_list, final, in_hand}
 use Rattle.flume_actions.proofs.GotRunLemmas.{to_come, outcome}
-use Rattle.flume_actions.proofs.GotCallLemmas.{calls_course}
 
 -- what none are left of is all
 taken_all : {X : Type 0} (n : ℕ) (xs : List X) → drop n xs ≡ [] → take n xs ≡ xs
@@ -88,7 +89,7 @@ module _ {T A : Type 0} where
         → AreDue held members dues → dues ≡ gots
 
   one_due : (m : Member T A) (members : List (Member T A)) (got : List T) (gots : List (List T))
-      → m.parked ≡ None → m.got ≡ got
+      → m.stand ≡ Free → m.got ≡ got
       → ((held : Option ℕ → List T) → held None ≡ [] → (dues : List (List T))
       → AreDue held members dues → dues ≡ gots)
       → (held : Option ℕ → List T) → held None ≡ [] → (dues : List (List T))
@@ -96,13 +97,14 @@ module _ {T A : Type 0} where
   one_due m members got gots none is deeper held empty [] each = absurd each
   one_due m members got gots none is deeper held empty (due ∷ dues) each =
       let same : due ≡ got =
-      sym (each.0 ∙ ap (λ list. list ++ due) (ap held none ∙ empty)) ∙ is in
+      sym (each.0 ∙ ap (λ list. list ++ due) (ap (λ stand. held (parked_of stand)) none ∙ empty))
+      ∙ is in
       let others = deeper held empty dues each.1 in
       ap (λ list. list ∷ dues) same ∙ ap (λ list. got ∷ list) others
 
   starts : (parties : List (List (Action T A))) (sents gots : List (List T))
-      → EachAreCalls parties sents gots → Start parties gots
-  starts _ _ _ NoParty = record {
+      → EachCourse parties sents gots → Start parties gots
+  starts _ _ _ NoCourse = record {
     members = [];
     actions_are = refl;
     unparked = λ t. refl;
@@ -114,14 +116,15 @@ module _ {T A : Type 0} where
       no_dues held empty [] each = refl
       no_dues held empty (due ∷ dues) each = absurd each
   starts _ _ _
-      (AndParty {actions = actions} {others = others} {sent = sent} {got = got} {sents = sents}
-      {gots = gots} calls rest) =
+      (AndCourse {actions = actions} {others = others} {sent = sent} {got = got} {sents = sents}
+      {gots = gots} course rest) =
       let more = starts others sents gots rest in
       let m : Member T A = record {
-        parked = None;
+        stand = Free;
         actions = actions;
+        sent = sent;
         got = got;
-        course = calls_course actions sent got calls;
+        course = course;
       } in
       record {
         members = m ∷ more.members;
@@ -134,16 +137,15 @@ module _ {T A : Type 0} where
   pub got_in_order : (opening : Opening) (history : List (Action T A))
       (parties : List (List (Action T A))) (sents gots : List (List T))
       → IsRun opening (reverse history) → is_over (reverse history) ≡ false
-      → Interleaved parties (filter is_of_party history) → EachAreCalls parties sents gots
+      → Interleaved parties history → EachCourse parties sents gots
       → Interleaved gots (messages (take (hand_outs (reverse history)) (kept (reverse history))))
-  got_in_order o history parties sents gots run still merged calls =
-      let s = starts parties sents gots calls in
+  got_in_order o history parties sents gots run still merged courses =
+      let s = starts parties sents gots courses in
       let log : Log T A = reverse history in
       let seen : ℕ → Option T = shown log in
       let end = outcome o seen history [] s.members run still (λ t. refl) s.unparked
-      (subst (λ lists. Interleaved lists (filter is_of_party history)) (sym s.actions_are)
-      merged) in
-      let given = s.gots_are _ refl end.due.dues end.due.each in
+      (subst (λ lists. Interleaved lists history) (sym s.actions_are) merged) in
+      let given = s.gots_are (in_hand seen (was_filled {T = T} {A = A} [])) refl end.due.dues end.due.each in
       let all = all_to_come seen history [] in
       let order = in_order o log run in
       let placed = placed_messages seen (handed_out log) (kept log)
@@ -157,10 +159,10 @@ module _ {T A : Type 0} where
   pub got_all : (opening : Opening) (history : List (Action T A))
       (parties : List (List (Action T A))) (sents gots : List (List T))
       → IsRun opening (reverse history) → is_over (reverse history) ≡ false
-      → line (reverse history) ≡ [] → Interleaved parties (filter is_of_party history)
-      → EachAreCalls parties sents gots → Interleaved gots (messages (kept (reverse history)))
-  got_all o history parties sents gots run still none merged calls =
+      → line (reverse history) ≡ [] → Interleaved parties history
+      → EachCourse parties sents gots → Interleaved gots (messages (kept (reverse history)))
+  got_all o history parties sents gots run still none merged courses =
       let log : Log T A = reverse history in
       let left = sym (line_is_open log still) ∙ none in
       subst (λ list. Interleaved gots (messages list)) (taken_all (hand_outs log) (kept log) left)
-      (got_in_order o history parties sents gots run still merged calls)
+      (got_in_order o history parties sents gots run still merged courses)

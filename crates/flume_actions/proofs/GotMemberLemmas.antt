@@ -5,15 +5,15 @@ use Rattle.flume_model.specs.Log.{is_ticket}
 use Rattle.flume_party.specs.Interleavings.{Interleaving, End, Left, Right}
 use Rattle.flume_actions.specs.Actions.{Action}
 use Rattle.flume_actions.specs.Together.{Interleaved}
-use Rattle.flume_actions.proofs.GotTurnLemmas.{Course}
+use Rattle.flume_actions.proofs.TurnLemmas.{Stand, parked_of, Course}
 
--- a party: the ticket under which it is parked, if it is, what it is still to do, and what it gets
--- by that
+-- a party: how it stands, what it is still to do, and what it sends and gets by that
 pub record Member (T A : Type 0) : Type 0 where
-  pub parked : Option ℕ
+  pub stand : Stand T
   pub actions : List (Action T A)
+  pub sent : List T
   pub got : List T
-  pub course : Course actions parked got
+  pub course : Course actions stand sent got
 
 -- one if this is the ticket
 abbrev pub here : ℕ → Option ℕ → ℕ
@@ -39,18 +39,18 @@ module _ {T A : Type 0} where
   -- how many parties are parked under the ticket
   abbrev pub parked_under : ℕ → List (Member T A) → ℕ
   parked_under t [] = 0
-  parked_under t (m ∷ members) = here t m.parked + parked_under t members
+  parked_under t (m ∷ members) = here t (parked_of m.stand) + parked_under t members
 
   -- if one party becomes another
   pub parked_else : (t : ℕ) (before after : List (Member T A)) (m n : Member T A)
-      → parked_under t (before ++ n ∷ after) + here t m.parked
-      ≡ parked_under t (before ++ m ∷ after) + here t n.parked
+      → parked_under t (before ++ n ∷ after) + here t (parked_of m.stand)
+      ≡ parked_under t (before ++ m ∷ after) + here t (parked_of n.stand)
   parked_else t [] after m n = omega arith
   parked_else t (x ∷ before) after m n = omega (arith, parked_else t before after m n)
 
   -- a party is one of those parked under its ticket
   pub parked_one : (t : ℕ) (before after : List (Member T A)) (m : Member T A)
-      → here t m.parked ≤ parked_under t (before ++ m ∷ after)
+      → here t (parked_of m.stand) ≤ parked_under t (before ++ m ∷ after)
   parked_one t [] after m = omega arith
   parked_one t (x ∷ before) after m = omega (arith, parked_one t before after m)
 

@@ -19,8 +19,8 @@ use Rattle.flume_model.specs.Replies.{IsRun}
 use Rattle.flume_model.specs.WaitLaws.{FilledIfNamed}
 use Rattle.flume_model.proofs.AskingCaseLemmas.{polled_cases, gone_cases}
 use Rattle.flume_model.proofs.EntryShapeLemmas.{entered, filled_if_named, fits_run}
-use Rattle.flume_actions.proofs.GotTurnLemmas.{Turn, Acts, Parks, Asks, Ends, Leaves, answered}
-use Rattle.flume_actions.proofs.GotTurnLemmas.{stays_parked}
+use Rattle.flume_actions.proofs.TurnLemmas.{Stand, parked_of, Turn, Acts, Parks, Asks, Ends, Leaves}
+use Rattle.flume_actions.proofs.TurnLemmas.{Blocks, Waits, Hears, Withdraws, answered, stays_parked}
 use Rattle.flume_actions.proofs.GotMemberLemmas.{here}
 use Rattle.flume_actions.proofs.GotEntryLemmas.{stands}
 use Rattle.flume_actions.proofs.GotEffectLemmas.{in_hand, Effect, unparked}
@@ -169,14 +169,15 @@ module _ {T A : Type 0} where
 
   -- each turn of a party
   pub effect : (o : Opening) (past : Log T A) (shown : ℕ → Option T) (step : Step T)
-      (reply : Reply T A) (parked after : Option ℕ) (now : List T)
-      → Turn parked step reply after now → IsRun o ((step, reply) ∷ past)
-      → ((t : ℕ) → here t parked ≤ stands t (entries o past))
+      (reply : Reply T A) (before after : Stand T) (sent got : List T)
+      → Turn before step reply after sent got → IsRun o ((step, reply) ∷ past)
+      → ((t : ℕ) → here t (parked_of before) ≤ stands t (entries o past))
       → ((t : ℕ) (m : T) → shows_to t step reply ≡ Some m → shown t ≡ Some m)
-      → Effect shown (was_filled past) (change past step reply) (filled_by reply) parked after now
-  effect o past shown step reply _ _ _ (Acts is) run stood same =
+      → Effect shown (was_filled past) (change past step reply) (filled_by reply) (parked_of before)
+      (parked_of after) got
+  effect o past shown step reply _ _ _ _ (Acts is blocked) run stood same =
       unparked o past shown step reply run.0 is
-  effect o past shown _ _ _ _ _ (Parks {kind = kind} {ticket = t}) run stood same =
+  effect o past shown _ _ _ _ _ _ (Parks {kind = kind} {ticket = t}) run stood same =
       let fit = fits_run o past (Recv kind, Parked t) run in
       let unfilled = (entered o past run.1).unfilled t (omega (arith, fit.3)) in
       record {
@@ -185,11 +186,19 @@ module _ {T A : Type 0} where
         shows = rw unfilled refl;
         hands = refl;
       }
-  effect o past shown _ reply _ _ _ (Asks {ticket = t} is) run stood same =
+  effect o past shown _ reply _ _ _ _ (Asks {ticket = t} is) run stood same =
       asks past shown t reply is
-  effect o past shown _ reply _ _ _ (Ends {ticket = t} is) run stood same =
+  effect o past shown _ reply _ _ _ _ (Ends {ticket = t} is) run stood same =
       let found = found_of t (entries o past) (stood t) in
       ends o past shown t reply found.0 run found.1 (same t) is
-  effect o past shown _ reply _ _ _ (Leaves {ticket = t}) run stood same =
+  effect o past shown _ reply _ _ _ _ (Leaves {ticket = t}) run stood same =
       let found = found_of t (entries o past) (stood t) in
       leaves o past shown t reply found.0 run found.1 (same t)
+  effect o past shown step reply _ _ _ _ Blocks run stood same =
+      unparked o past shown step reply run.0 refl
+  effect o past shown step reply _ _ _ _ Waits run stood same =
+      unparked o past shown step reply run.0 refl
+  effect o past shown step reply _ _ _ _ (Hears is) run stood same =
+      unparked o past shown step reply run.0 refl
+  effect o past shown step reply _ _ _ _ (Withdraws is) run stood same =
+      unparked o past shown step reply run.0 refl

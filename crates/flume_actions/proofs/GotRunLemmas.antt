@@ -1,9 +1,7 @@
 -- What is handed out from a moment of a run on is what its parties are still due.
-use Rattle.std.proofs.Common.{◌≡◌, ℕ, ◌||◌, Bool, true, false, List, [], ◌∷◌, ◌++◌, Option, Some}
+use Rattle.std.proofs.Common.{◌≡◌, ℕ, ◌||◌, false, List, [], ◌∷◌, ◌++◌, Option, Some}
 use Rattle.std.proofs.Common.{None, refl, ap, sym, subst, ◌∙◌, arith}
-use Rattle.std.proofs.Common.{filter}
 use Rattle.std.proofs.lemmas.List.{append-nil, append_assoc}
-use Rattle.std.proofs.lemmas.Grind.{common_steps}
 use Rattle.std.specs.List.{flat_map}
 use mathlib.Core.List.{reverse_aux}
 use Rattle.flume_model.specs.Log.{Log, Opening, Change, is_ticket, change, was_filled, filled_by}
@@ -17,16 +15,15 @@ use Rattle.flume_model.proofs.EntryChangeLemmas.{fills}
 use Rattle.flume_model.proofs.EntryShapeLemmas.{filled_if_named, entries_apart}
 use Rattle.flume_model.proofs.fills.FillsKeptLemmas.{filled_holds, filled_stood}
 use Rattle.flume_model.proofs.waits.WaitingStepLemmas.{stepped}
-use Rattle.flume_actions.specs.Actions.{Action, is_of_party}
+use Rattle.flume_actions.specs.Actions.{Action}
 use Rattle.flume_actions.specs.Together.{Interleaved}
-use Rattle.flume_actions.proofs.GotTurnLemmas.{Course, gets, is_unparked}
+use Rattle.flume_actions.proofs.TurnLemmas.{Course}
 use Rattle.flume_actions.proofs.GotMemberLemmas.{Member, actions_of, parked_under, parked_else}
-use Rattle.flume_actions.proofs.GotMemberLemmas.{parked_one, Next, next}
+use Rattle.flume_actions.proofs.GotMemberLemmas.{parked_one, next}
 use Rattle.flume_actions.proofs.GotDueLemmas.{Due, due_more, due_filled, due_none}
 use Rattle.flume_actions.proofs.GotEntryLemmas.{stands, stands_by, held_stands}
 use Rattle.flume_actions.proofs.GotEntryLemmas.{filled_was_empty}
 use Rattle.flume_actions.proofs.GotEffectLemmas.{as_list, final, in_hand, named_is_filled}
-use Rattle.flume_actions.proofs.GotEffectLemmas.{unparked}
 use Rattle.flume_actions.proofs.GotParkedLemmas.{effect}
 use Rattle.flume_actions.proofs.GotShownLemmas.{in_hand_else, in_hand_filled, run_before}
 use Rattle.flume_actions.proofs.GotShownLemmas.{open_before}
@@ -85,19 +82,21 @@ module _ {T A : Type 0} where
       (rest later : List (Action T A)) (before after : List (Member T A)) (m : Member T A)
       → IsRun o (p ∷ past) → is_over (p ∷ past) ≡ false
       → ((t : ℕ) (x : T) → shows_to t p.0 p.1 ≡ Some x → seen t ≡ Some x)
-      → Agree o past (before ++ m ∷ after) → Course (p ∷ later) m.parked m.got
+      → Agree o past (before ++ m ∷ after) → Course (p ∷ later) m.stand m.sent m.got
       → ((n : Member T A) → n.actions ≡ later → Agree o (p ∷ past) (before ++ n ∷ after)
       → Outcome o seen (p ∷ past) rest (before ++ n ∷ after))
       → Outcome o seen past (p ∷ rest) (before ++ m ∷ after)
   owned o seen past p rest later before after m run still shows agree course deeper =
       let n : Member T A = record {
-        parked = course.0;
+        stand = course.after;
         actions = later;
-        got = course.2;
-        course = course.5;
+        sent = course.sent_later;
+        got = course.got_later;
+        course = course.rest;
       } in
       let s = stepped o past p run still in
-      let e = effect o past seen p.0 p.1 m.parked course.0 course.1 course.3 run
+      let e = effect o past seen p.0 p.1 m.stand course.after course.sent_now course.got_now course.turn
+      run
       (λ t. omega (arith, agree t, parked_one t before after m)) shows in
       let stand = λ (t : ℕ). stands_by (channel o past) s.closes (change past p.0 p.1) t s.fit
       (entries_apart o past run.1) in
@@ -112,48 +111,12 @@ module _ {T A : Type 0} where
       let rest_of = deeper n refl agrees in
       let line : List T = to_come seen (p ∷ past) rest in
       let filled : List T = flat_map (final seen) (fill (filled_by p.1)) in
-      let d = due_more (in_hand seen (was_filled past)) before after m n course.1 e.own
-      (filled ++ line) course.4 e.shows
+      let d = due_more (in_hand seen (was_filled past)) before after m n course.got_now e.own
+      (filled ++ line) course.got_is e.shows
       (before_fill o seen past p (before ++ n ∷ after) line run still agrees rest_of.due) in
       record {
         due = subst (Due (in_hand seen (was_filled past)) (before ++ m ∷ after))
             (sym (append_assoc e.own filled line) ∙ ap (λ list. list ++ line) (sym e.hands)) d;
-        nobody = rest_of.nobody;
-      }
-
-  free_unparked : (p : Action T A) → is_of_party p ≡ false → is_unparked p.0 p.1 ≡ true
-  free_unparked p free = grind (arith, common_steps)
-
-  free_gets : (p : Action T A) → is_of_party p ≡ false → gets p.0 p.1 ≡ []
-  free_gets p free = grind (arith, common_steps)
-
-  -- a step that may be anybody's
-  unowned : (o : Opening) (seen : ℕ → Option T) (past : Log T A) (p : Action T A)
-      (rest : List (Action T A)) (members : List (Member T A)) → IsRun o (p ∷ past)
-      → is_over (p ∷ past) ≡ false → is_of_party p ≡ false → Agree o past members
-      → (Agree o (p ∷ past) members → Outcome o seen (p ∷ past) rest members)
-      → Outcome o seen past (p ∷ rest) members
-  unowned o seen past p rest members run still free agree deeper =
-      let s = stepped o past p run still in
-      let e = unparked o past seen p.0 p.1 run.0 (free_unparked p free) in
-      let none : e.own ≡ [] = sym e.shows ∙ (append-nil (gets p.0 p.1) ∙ free_gets p free) in
-      let stand = λ (t : ℕ). stands_by (channel o past) s.closes (change past p.0 p.1) t s.fit
-      (entries_apart o past run.1) in
-      let agrees : Agree o (p ∷ past) members = λ t. omega (
-        arith,
-        agree t,
-        stand t,
-        ap (stands t) s.entries_are,
-        e.moves t,
-      ) in
-      let rest_of = deeper agrees in
-      let line : List T = to_come seen (p ∷ past) rest in
-      let filled : List T = flat_map (final seen) (fill (filled_by p.1)) in
-      record {
-        due = subst (Due (in_hand seen (was_filled past)) members)
-            (ap (λ list. (list ++ filled) ++ line) (sym none)
-            ∙ ap (λ list. list ++ line) (sym e.hands))
-            (before_fill o seen past p members line run still agrees rest_of.due);
         nobody = rest_of.nobody;
       }
 
@@ -162,42 +125,19 @@ module _ {T A : Type 0} where
       (members : List (Member T A)) → IsRun o (reverse_aux rest past)
       → is_over (reverse_aux rest past) ≡ false
       → ((t : ℕ) → seen t ≡ shown (reverse_aux rest past) t) → Agree o past members
-      → Interleaved (actions_of members) (filter is_of_party rest)
-      → Outcome o seen past rest members
+      → Interleaved (actions_of members) rest → Outcome o seen past rest members
   outcome o seen [] past members run still same agree merged =
       let none = due_none (in_hand seen (was_filled past)) members refl merged in
       record { due = none.0; nobody = λ t. sym (agree t) ∙ none.1 t }
   outcome o seen (p ∷ rest) past members run still same agree merged =
-      by_case (is_of_party p) refl
-      (λ others. outcome o seen rest (p ∷ past) others run still same)
-    where
-      now : IsRun o (p ∷ past)
-      now = run_before o rest (p ∷ past) run
-
-      open_now : is_over (p ∷ past) ≡ false
-      open_now = open_before o rest (p ∷ past) run still
-
-      by_next : Next p (filter is_of_party rest) members
-          → ((others : List (Member T A)) → Agree o (p ∷ past) others
-          → Interleaved (actions_of others) (filter is_of_party rest)
-          → Outcome o seen (p ∷ past) rest others)
-          → Outcome o seen past (p ∷ rest) members
-      by_next found deeper =
-          subst (Outcome o seen past (p ∷ rest)) (sym found.place)
-          (owned o seen past p rest found.later found.before found.after found.member now open_now
-          (λ t x is. same t ∙ shown_now o rest past p t x run is)
-          (subst (Agree o past) found.place agree)
-          (subst (λ list. Course list found.member.parked found.member.got) found.first
-          found.member.course)
-          (λ n is agrees. deeper (found.before ++ n ∷ found.after) agrees (found.rest n is)))
-
-      by_case : (b : Bool) → is_of_party p ≡ b
-          → ((others : List (Member T A)) → Agree o (p ∷ past) others
-          → Interleaved (actions_of others) (filter is_of_party rest)
-          → Outcome o seen (p ∷ past) rest others)
-          → Outcome o seen past (p ∷ rest) members
-      by_case true is deeper =
-          by_next (next members p (filter is_of_party rest) (rw is at merged)) deeper
-      by_case false is deeper =
-          unowned o seen past p rest members now open_now is agree
-          (λ agrees. deeper members agrees (rw is at merged))
+      let found = next members p rest merged in
+      let now = run_before o rest (p ∷ past) run in
+      let m = found.member in
+      subst (Outcome o seen past (p ∷ rest)) (sym found.place)
+      (owned o seen past p rest found.later found.before found.after m now
+      (open_before o rest (p ∷ past) run still)
+      (λ t x is. same t ∙ shown_now o rest past p t x run is)
+      (subst (Agree o past) found.place agree)
+      (subst (λ list. Course list m.stand m.sent m.got) found.first m.course)
+      (λ n is agrees. outcome o seen rest (p ∷ past) (found.before ++ n ∷ found.after) run still
+      same agrees (found.rest n is)))

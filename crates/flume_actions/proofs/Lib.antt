@@ -1,5 +1,11 @@
--- A party's actions as turns of a receiver, one after the other, and what it gets by them.
-mod GotTurnLemmas
+-- Lists merged into one: what each element makes, and what each counts.
+mod MergeLemmas
+-- A party's actions as turns, one after the other, and what it sends and gets by them.
+mod TurnLemmas
+-- The actions of whole calls are a course, which sends and gets what the calls did.
+mod CallLemmas
+-- Parties, by their courses.
+mod PartyLemmas
 -- Parties of which one makes the next action.
 mod GotMemberLemmas
 -- What parties are still to get, merged, before one of them got more and before one was filled.
@@ -14,19 +20,15 @@ mod GotParkedLemmas
 mod GotShownLemmas
 -- What is handed out from a moment of a run on is what its parties are still due.
 mod GotRunLemmas
--- The actions of whole calls are turns of a receiver, which gets what the calls got.
-mod GotCallLemmas
 -- What parties got is what was handed out, in its order.
 mod GotInOrderLemmas
--- Lists merged into one: what each element makes, and what each counts.
-mod SentMergeLemmas
 -- What an action of a run offers, and how often a ticket of a send is issued and ended.
 mod SentOfferLemmas
--- In the actions of whole calls each ticket of a send ends as often as it is issued.
-mod SentCountLemmas
--- What whole calls sent is what their actions offer, without what went back.
-mod SentCallLemmas
+-- What a course sends is what its actions offer, and it ends each ticket as often as it issues it.
+mod SentCourseLemmas
 -- What some parties sent, together, is what is kept of the offers of a run, in their order.
 mod SentOrderLemmas
+-- What whole calls sent is what they got.
+mod ExchangeLemmas
 -- What callers cite: calls one after the other, and parties that become one again.
 pub mod CallerLemmas

@@ -1,6 +1,6 @@
 -- What an action of a run offers, and how often a ticket of a send is issued and ended.
 use Rattle.std.proofs.Common.{◌≡◌, ℕ, ◌+◌, ◌≤◌, ◌==◌, Bool, true, false, ◌||◌, List, [], ◌∷◌, ◌++◌}
-use Rattle.std.proofs.Common.{Some, None, refl, ap, sym, ◌∙◌, arith, ◌⊎◌, inl, inr, eqb-true}
+use Rattle.std.proofs.Common.{Some, refl, ap, sym, ◌∙◌, arith, ◌⊎◌, inl, inr, eqb-true}
 use Rattle.std.proofs.Common.{if◌then◌else◌}
 use Rattle.std.proofs.lemmas.List.{map-append}
 use Rattle.std.proofs.lemmas.List.Elements.{filter-append}
@@ -8,10 +8,10 @@ use Rattle.std.proofs.lemmas.Grind.{common_steps}
 use Rattle.std.specs.Prelude.{reverse}
 use Rattle.std.specs.List.{flat_map, filter}
 use Rattle.flume_model.specs.declared.step.Step.{Step}
-use Rattle.flume_model.specs.declared.step.Step.TheVariants.{TrySend, Send, PollSend, WithdrawSend}
+use Rattle.flume_model.specs.declared.step.Step.TheVariants.{Send, PollSend, WithdrawSend}
 use Rattle.flume_model.specs.declared.step.Step.TheVariants.{Poll, Withdraw}
 use Rattle.flume_model.specs.declared.step.Reply.{Reply}
-use Rattle.flume_model.specs.declared.step.Reply.TheVariants.{Sent, Pending, Accepted, Returned}
+use Rattle.flume_model.specs.declared.step.Reply.TheVariants.{Pending, Accepted, Returned}
 use Rattle.flume_model.specs.declared.step.Reply.TheVariants.{NoTicket, Got}
 use Rattle.flume_model.specs.Log.{Log, Opening, Offer, Blocks, Collects, Takes, change}
 use Rattle.flume_model.specs.Log.{was_filled}
@@ -20,7 +20,8 @@ use Rattle.flume_model.specs.Line.{messages, next_ticket, tickets_issued}
 use Rattle.flume_model.specs.Channel.{channel}
 use Rattle.flume_model.specs.Replies.{IsReply, IsRun}
 use Rattle.flume_actions.specs.Actions.{Action}
-use Rattle.flume_actions.proofs.SentMergeLemmas.{bit, tally, flat_reverse}
+use Rattle.flume_actions.proofs.MergeLemmas.{bit, tally, flat_reverse}
+use Rattle.flume_actions.proofs.TurnLemmas.{offered}
 
 -- a change withdraws the offer, or an earlier one has
 some_or : (b w : Bool) (n k : ℕ) → bit b ≡ n → 1 ≤ n + k → (1 ≤ k → w ≡ true)
@@ -62,13 +63,6 @@ module _ {T : Type 0} where
   none_withdrawn false t m offer = refl
 
 module _ {T A : Type 0} where
-  -- the offer that an action makes, if it makes one
-  abbrev pub offered : Step T → Reply T A → List (Offer T)
-  offered (TrySend m) (Sent filled) = record { message = m; ticket = None } ∷ []
-  offered (Send m) (Sent filled) = record { message = m; ticket = None } ∷ []
-  offered (Send m) (Pending t) = record { message = m; ticket = Some t } ∷ []
-  offered _ _ = []
-
   -- the messages of those that are kept
   abbrev pub sent_of : (Offer T → Bool) → Action T A → List T
   sent_of keeps action = messages (filter keeps (offered action.0 action.1))
@@ -78,18 +72,27 @@ module _ {T A : Type 0} where
   issues_by t (Send m) (Pending u) = bit (t == u)
   issues_by t _ _ = 0
 
-  -- one if the send with this ticket ends with its message back
+  -- one if a blocked send that is answered so ends with its message back, and its ticket is this
+  abbrev pub returned_to : ℕ → ℕ → Reply T A → ℕ
+  returned_to t u (Returned m closed) = bit (t == u)
+  returned_to t u _ = 0
+
+  -- one if it ends, and its message has gone
+  abbrev pub passed_to : ℕ → ℕ → Reply T A → ℕ
+  passed_to t u Accepted = bit (t == u)
+  passed_to t u NoTicket = bit (t == u)
+  passed_to t u _ = 0
+
+  -- one if the send with this ticket ends by the action with its message back
   abbrev pub returns_by : ℕ → Step T → Reply T A → ℕ
-  returns_by t (PollSend u) (Returned m closed) = bit (t == u)
-  returns_by t (WithdrawSend u) (Returned m closed) = bit (t == u)
+  returns_by t (PollSend u) reply = returned_to t u reply
+  returns_by t (WithdrawSend u) reply = returned_to t u reply
   returns_by t _ _ = 0
 
   -- one if it ends, and its message has gone
   abbrev pub passes_by : ℕ → Step T → Reply T A → ℕ
-  passes_by t (PollSend u) Accepted = bit (t == u)
-  passes_by t (PollSend u) NoTicket = bit (t == u)
-  passes_by t (WithdrawSend u) Accepted = bit (t == u)
-  passes_by t (WithdrawSend u) NoTicket = bit (t == u)
+  passes_by t (PollSend u) reply = passed_to t u reply
+  passes_by t (WithdrawSend u) reply = passed_to t u reply
   passes_by t _ _ = 0
 
   -- the same of an action

@@ -1,11 +1,13 @@
 -- Lists merged into one: what each element makes, and what each counts.
-use Rattle.std.proofs.Common.{◌≡◌, ℕ, ◌+◌, Bool, true, false, List, [], ◌∷◌, ◌++◌, refl, ap}
-use Rattle.std.proofs.Common.{◌∙◌, arith}
+use Rattle.std.proofs.Common.{◌≡◌, ℕ, ◌+◌, Bool, true, false, not, List, [], ◌∷◌, ◌++◌, refl, ap}
+use Rattle.std.proofs.Common.{sym, subst, ◌∙◌, arith}
 use Rattle.std.proofs.lemmas.Grind.{reverse_onto, flat_map-append}
 use Rattle.std.proofs.lemmas.List.{append-nil}
 use Rattle.std.specs.Prelude.{reverse}
 use Rattle.std.specs.List.{flat_map, filter}
 use Rattle.flume_party.specs.Interleavings.{Interleaving, End, Left, Right}
+use Rattle.flume_party.proofs.InterleavingLemmas.{interleaved_alone, interleaved_swap}
+use Rattle.flume_actions.specs.Together.{Interleaved}
 
 -- one if so
 abbrev pub bit : Bool → ℕ
@@ -31,19 +33,6 @@ module _ {X : Type 0} where
       ap (tally count) (reverse_onto xs x [])
       ∙ (tally_append count (reverse xs) (x ∷ []) ∙ omega (arith, tally_reverse count xs))
 
-  -- an element that a test leaves out counts nothing
-  pub tally_filter : (count : X → ℕ) (test : X → Bool)
-      → ((x : X) → test x ≡ false → count x ≡ 0)
-      → (xs : List X) → tally count (filter test xs) ≡ tally count xs
-  tally_filter count test none [] = refl
-  tally_filter count test none (x ∷ xs) =
-      by_case (test x) refl (tally_filter count test none xs)
-    where
-      by_case : (b : Bool) → test x ≡ b → tally count (filter test xs) ≡ tally count xs
-          → tally count (filter test (x ∷ xs)) ≡ count x + tally count xs
-      by_case true is rest = rw is (omega (arith, rest))
-      by_case false is rest = rw is (omega (arith, rest, none x is))
-
   -- of an interleaving
   pub tally_merged : (count : X → ℕ) (xs ys zs : List X) → Interleaving xs ys zs
       → tally count zs ≡ tally count xs + tally count ys
@@ -54,28 +43,34 @@ module _ {X : Type 0} where
       omega (arith, tally_merged count xs ys zs rest)
 
   -- a list in front of the first
-  left_all : (w xs ys zs : List X) → Interleaving xs ys zs → Interleaving (w ++ xs) ys (w ++ zs)
+  pub left_all : (w xs ys zs : List X) → Interleaving xs ys zs → Interleaving (w ++ xs) ys (w ++ zs)
   left_all [] xs ys zs rest = rest
   left_all (x ∷ w) xs ys zs rest = Left (left_all w xs ys zs rest)
 
   -- a list in front of the second
-  right_all : (w xs ys zs : List X) → Interleaving xs ys zs → Interleaving xs (w ++ ys) (w ++ zs)
+  pub right_all : (w xs ys zs : List X) → Interleaving xs ys zs → Interleaving xs (w ++ ys) (w ++ zs)
   right_all [] xs ys zs rest = rest
   right_all (x ∷ w) xs ys zs rest = Right (right_all w xs ys zs rest)
 
-module _ {X Y : Type 0} where
-  -- an element that a test leaves out makes nothing
-  pub flat_filter : (f : X → List Y) (test : X → Bool)
-      → ((x : X) → test x ≡ false → f x ≡ [])
-      → (xs : List X) → flat_map f (filter test xs) ≡ flat_map f xs
-  flat_filter f test none [] = refl
-  flat_filter f test none (x ∷ xs) = by_case (test x) refl (flat_filter f test none xs)
+  -- the elements that a test leaves out, and the others
+  pub filter_merged : (test : X → Bool) (xs : List X)
+      → Interleaving (filter (λ x. not (test x)) xs) (filter test xs) xs
+  filter_merged test [] = End
+  filter_merged test (x ∷ xs) = by_case (test x) refl (filter_merged test xs)
     where
-      by_case : (b : Bool) → test x ≡ b → flat_map f (filter test xs) ≡ flat_map f xs
-          → flat_map f (filter test (x ∷ xs)) ≡ f x ++ flat_map f xs
-      by_case true is rest = rw is (ap (λ more. f x ++ more) rest)
-      by_case false is rest = rw (is, none x is) rest
+      by_case : (b : Bool) → test x ≡ b → Interleaving (filter (λ x. not (test x)) xs) (filter test xs) xs
+          → Interleaving (filter (λ x. not (test x)) (x ∷ xs)) (filter test (x ∷ xs)) (x ∷ xs)
+      by_case true is rest = rw is (Right rest)
+      by_case false is rest = rw is (Left rest)
 
+  -- an empty list may be left out
+  pub leave_out : (lists : List (List X)) (line : List X) → Interleaved ([] ∷ lists) line
+      → Interleaved lists line
+  leave_out lists line merged =
+      subst (Interleaved lists) (sym (interleaved_alone merged.0 line
+      (interleaved_swap [] merged.0 line merged.2))) merged.1
+
+module _ {X Y : Type 0} where
   -- what the last element makes comes last
   pub flat_reverse : (f : X → List Y) (x : X) (xs : List X)
       → flat_map f (reverse (x ∷ xs)) ≡ flat_map f (reverse xs) ++ f x
