@@ -23,8 +23,6 @@ exchange {capacity = capacity} {parties = parties} {sents = sents} {gots = gots}
     let some = all_parties whole.history parties sents gots
     (subst (Interleaved parties) whole.all merged) calls in (
       line,
-      leave_out sents line
-          (sent_in_order o whole.history some.parties _ _ whole.run some.merged some.courses),
-      leave_out gots line (got_all o whole.history some.parties _ _ whole.run left.1 left.0
-          some.merged some.courses),
+      leave_out sents line (sent_in_order o whole.history _ _ whole.run some),
+      leave_out gots line (got_all o whole.history _ _ whole.run left some),
     )

@@ -7,7 +7,8 @@ use Rattle.flume_party.specs.Interleavings.{Interleaving, End}
 use Rattle.flume_actions.specs.Together.{Interleaved}
 use Rattle.flume_actions.proofs.MergeLemmas.{left_all, right_all}
 use Rattle.flume_actions.proofs.TurnLemmas.{parked_of, Course}
-use Rattle.flume_actions.proofs.GotMemberLemmas.{Member, actions_of, parked_under, here}
+use Rattle.flume_actions.proofs.PartyLemmas.{Member, actions_of}
+use Rattle.flume_actions.proofs.GotMemberLemmas.{parked_under, here}
 use Rattle.flume_actions.proofs.GotMemberLemmas.{none_merged}
 
 module _ {T A : Type 0} where

@@ -1,6 +1,6 @@
 -- What parties got is what was handed out, in its order.
 use Rattle.std.proofs.Common.{◌≡◌, ℕ, zero, suc, Bool, false, List, [], ◌∷◌, ◌++◌, length, take}
-use Rattle.std.proofs.Common.{drop}
+use Rattle.std.proofs.Common.{drop, map}
 use Rattle.std.proofs.Common.{Option, Some, None, refl, ap, sym, subst, ◌∙◌, arith}
 use Rattle.std.proofs.lemmas.List.{append-nil, append_assoc, take-append-drop}
 use Rattle.std.proofs.lemmas.Grind.{common_steps, flat_map-append}
@@ -19,9 +19,9 @@ use Rattle.flume_model.proofs.fills.FillsOrderLemmas.{in_order}
 use Rattle.flume_model.proofs.order.KeptLemmas.{line_is_open}
 use Rattle.flume_actions.specs.Actions.{Action}
 use Rattle.flume_actions.specs.Together.{Interleaved}
-use Rattle.flume_actions.proofs.TurnLemmas.{Free, parked_of}
-use Rattle.flume_actions.proofs.PartyLemmas.{EachCourse, NoCourse, AndCourse}
-use Rattle.flume_actions.proofs.GotMemberLemmas.{Member, actions_of, parked_under}
+use Rattle.flume_actions.proofs.TurnLemmas.{parked_of}
+use Rattle.flume_actions.proofs.PartyLemmas.{Member, AreFree, Parties}
+use Rattle.flume_actions.proofs.GotMemberLemmas.{here, parked_under}
 use Rattle.flume_actions.proofs.GotDueLemmas.{AreDue}
 use Rattle.flume_actions.proofs.GotEntryLemmas.{stands, held_stands}
 use Rattle.flume_actions.proofs.GotEffectLemmas.{as_list, final, in_hand}
@@ -80,72 +80,40 @@ module _ {T A : Type 0} where
       ∙ (ap (λ list. list ++ to_come seen (p ∷ past) rest) (sym all)
       ∙ all_to_come seen rest (p ∷ past))
 
-  -- parties at the start
-  record Start (parties : List (List (Action T A))) (gots : List (List T)) : Type 0 where
-    pub members : List (Member T A)
-    pub actions_are : actions_of members ≡ parties
-    pub unparked : (t : ℕ) → parked_under t members ≡ 0
-    pub gots_are : (held : Option ℕ → List T) → held None ≡ [] → (dues : List (List T))
-        → AreDue held members dues → dues ≡ gots
+  -- of parties that are free
+  free_unparked : (t : ℕ) (members : List (Member T A)) → AreFree members
+      → parked_under t members ≡ 0
+  free_unparked t [] free = refl
+  free_unparked t (m ∷ members) free = omega (
+    arith,
+    ap (λ stand. here t (parked_of stand)) free.0,
+    free_unparked t members free.1,
+  )
 
-  one_due : (m : Member T A) (members : List (Member T A)) (got : List T) (gots : List (List T))
-      → m.stand ≡ Free → m.got ≡ got
-      → ((held : Option ℕ → List T) → held None ≡ [] → (dues : List (List T))
-      → AreDue held members dues → dues ≡ gots)
-      → (held : Option ℕ → List T) → held None ≡ [] → (dues : List (List T))
-      → AreDue held (m ∷ members) dues → dues ≡ got ∷ gots
-  one_due m members got gots none is deeper held empty [] each = absurd each
-  one_due m members got gots none is deeper held empty (due ∷ dues) each =
-      let same : due ≡ got =
-      sym (each.0 ∙ ap (λ list. list ++ due) (ap (λ stand. held (parked_of stand)) none ∙ empty))
-      ∙ is in
-      let others = deeper held empty dues each.1 in
-      ap (λ list. list ∷ dues) same ∙ ap (λ list. got ∷ list) others
-
-  starts : (parties : List (List (Action T A))) (sents gots : List (List T))
-      → EachCourse parties sents gots → Start parties gots
-  starts _ _ _ NoCourse = record {
-    members = [];
-    actions_are = refl;
-    unparked = λ t. refl;
-    gots_are = no_dues;
-  }
-    where
-      no_dues : (held : Option ℕ → List T) → held None ≡ [] → (dues : List (List T))
-          → AreDue {A = A} held [] dues → dues ≡ []
-      no_dues held empty [] each = refl
-      no_dues held empty (due ∷ dues) each = absurd each
-  starts _ _ _
-      (AndCourse {actions = actions} {others = others} {sent = sent} {got = got} {sents = sents}
-      {gots = gots} course rest) =
-      let more = starts others sents gots rest in
-      let m : Member T A = record {
-        stand = Free;
-        actions = actions;
-        sent = sent;
-        got = got;
-        course = course;
-      } in
-      record {
-        members = m ∷ more.members;
-        actions_are = ap (λ list. actions ∷ list) more.actions_are;
-        unparked = λ t. omega (arith, more.unparked t);
-        gots_are = one_due m more.members got gots refl refl more.gots_are;
-      }
+  free_dues : (held : Option ℕ → List T) (members : List (Member T A)) (dues : List (List T))
+      → held None ≡ [] → AreFree members → AreDue held members dues
+      → dues ≡ map (λ member. member.got) members
+  free_dues held [] [] none free each = refl
+  free_dues held [] (due ∷ dues) none free each = absurd each
+  free_dues held (m ∷ members) [] none free each = absurd each
+  free_dues held (m ∷ members) (due ∷ dues) none free each =
+      let empty = ap (λ stand. held (parked_of stand)) free.0 ∙ none in
+      let first : due ≡ m.got = sym (each.0 ∙ ap (λ list. list ++ due) empty) in
+      let others = free_dues held members dues none free.1 each.1 in
+      ap (λ list. list ∷ dues) first ∙ ap (λ lists. m.got ∷ lists) others
 
   -- what each party got, merged, is what was handed out
-  pub got_in_order : (opening : Opening) (history : List (Action T A))
-      (parties : List (List (Action T A))) (sents gots : List (List T))
+  got_in_order : (opening : Opening) (history : List (Action T A)) (sents gots : List (List T))
       → IsRun opening (reverse history) → is_over (reverse history) ≡ false
-      → Interleaved parties history → EachCourse parties sents gots
+      → Parties history sents gots
       → Interleaved gots (messages (take (hand_outs (reverse history)) (kept (reverse history))))
-  got_in_order o history parties sents gots run still merged courses =
-      let s = starts parties sents gots courses in
+  got_in_order o history sents gots run still s =
       let log : Log T A = reverse history in
       let seen : ℕ → Option T = shown log in
-      let end = outcome o seen history [] s.members run still (λ t. refl) s.unparked
-      (subst (λ lists. Interleaved lists history) (sym s.actions_are) merged) in
-      let given = s.gots_are (in_hand seen (was_filled {T = T} {A = A} [])) refl end.due.dues end.due.each in
+      let end = outcome o seen history [] s.members run still (λ t. refl)
+      (λ t. free_unparked t s.members s.free) s.merged in
+      let given = free_dues (in_hand seen (was_filled {T = T} {A = A} [])) s.members end.due.dues refl
+      s.free end.due.each ∙ s.gots_are in
       let all = all_to_come seen history [] in
       let order = in_order o log run in
       let placed = placed_messages seen (handed_out log) (kept log)
@@ -156,13 +124,12 @@ module _ {T A : Type 0} where
       (subst (Interleaved end.due.dues) (all ∙ placed) end.due.merged)
 
   -- if nothing is left, it is all that is kept of the offers
-  pub got_all : (opening : Opening) (history : List (Action T A))
-      (parties : List (List (Action T A))) (sents gots : List (List T))
-      → IsRun opening (reverse history) → is_over (reverse history) ≡ false
-      → line (reverse history) ≡ [] → Interleaved parties history
-      → EachCourse parties sents gots → Interleaved gots (messages (kept (reverse history)))
-  got_all o history parties sents gots run still none merged courses =
+  pub got_all : (opening : Opening) (history : List (Action T A)) (sents gots : List (List T))
+      → IsRun opening (reverse history)
+      → (line (reverse history) ≡ []) × (is_over (reverse history) ≡ false)
+      → Parties history sents gots → Interleaved gots (messages (kept (reverse history)))
+  got_all o history sents gots run left parties =
       let log : Log T A = reverse history in
-      let left = sym (line_is_open log still) ∙ none in
-      subst (λ list. Interleaved gots (messages list)) (taken_all (hand_outs log) (kept log) left)
-      (got_in_order o history parties sents gots run still merged courses)
+      let none = sym (line_is_open log left.1) ∙ left.0 in
+      subst (λ list. Interleaved gots (messages list)) (taken_all (hand_outs log) (kept log) none)
+      (got_in_order o history sents gots run left.1 parties)

@@ -1,19 +1,12 @@
 -- Parties of which one makes the next action.
-use Rattle.std.proofs.Common.{◌≡◌, ℕ, ◌+◌, ◌≤◌, List, [], ◌∷◌, ◌++◌, map, Option}
+use Rattle.std.proofs.Common.{◌≡◌, ℕ, ◌+◌, ◌≤◌, List, [], ◌∷◌, ◌++◌, Option}
 use Rattle.std.proofs.Common.{refl, ap, sym, subst, arith, if◌then◌else◌, ◌⊎◌, inl, inr}
 use Rattle.flume_model.specs.Log.{is_ticket}
 use Rattle.flume_party.specs.Interleavings.{Interleaving, End, Left, Right}
 use Rattle.flume_actions.specs.Actions.{Action}
 use Rattle.flume_actions.specs.Together.{Interleaved}
-use Rattle.flume_actions.proofs.TurnLemmas.{Stand, parked_of, Course}
-
--- a party: how it stands, what it is still to do, and what it sends and gets by that
-pub record Member (T A : Type 0) : Type 0 where
-  pub stand : Stand T
-  pub actions : List (Action T A)
-  pub sent : List T
-  pub got : List T
-  pub course : Course actions stand sent got
+use Rattle.flume_actions.proofs.TurnLemmas.{parked_of}
+use Rattle.flume_actions.proofs.PartyLemmas.{Member, actions_of}
 
 -- one if this is the ticket
 abbrev pub here : ℕ → Option ℕ → ℕ
@@ -32,10 +25,6 @@ module _ {X : Type 0} where
   none_merged _ _ End = (refl, refl)
 
 module _ {T A : Type 0} where
-  -- what each party is still to do
-  abbrev pub actions_of : List (Member T A) → List (List (Action T A))
-  actions_of members = map (λ member. member.actions) members
-
   -- how many parties are parked under the ticket
   abbrev pub parked_under : ℕ → List (Member T A) → ℕ
   parked_under t [] = 0

@@ -175,8 +175,9 @@ module _ {T A : Type 0} where
       → ((t : ℕ) (m : T) → shows_to t step reply ≡ Some m → shown t ≡ Some m)
       → Effect shown (was_filled past) (change past step reply) (filled_by reply) (parked_of before)
       (parked_of after) got
-  effect o past shown step reply _ _ _ _ (Acts is blocked) run stood same =
-      unparked o past shown step reply run.0 is
+  effect o past shown step reply _ _ _ _ (Acts is blocked sent got) run stood same =
+      subst (Effect shown (was_filled past) (change past step reply) (filled_by reply) None None)
+      got (unparked o past shown step reply run.0 is)
   effect o past shown _ _ _ _ _ _ (Parks {kind = kind} {ticket = t}) run stood same =
       let fit = fits_run o past (Recv kind, Parked t) run in
       let unfilled = (entered o past run.1).unfilled t (omega (arith, fit.3)) in
@@ -188,17 +189,19 @@ module _ {T A : Type 0} where
       }
   effect o past shown _ reply _ _ _ _ (Asks {ticket = t} is) run stood same =
       asks past shown t reply is
-  effect o past shown _ reply _ _ _ _ (Ends {ticket = t} is) run stood same =
+  effect o past shown _ reply _ _ _ _ (Ends {ticket = t} is got) run stood same =
       let found = found_of t (entries o past) (stood t) in
-      ends o past shown t reply found.0 run found.1 (same t) is
-  effect o past shown _ reply _ _ _ _ (Leaves {ticket = t}) run stood same =
+      subst (Effect shown (was_filled past) (change past (Poll t) reply) (filled_by reply) (Some t) None)
+      got (ends o past shown t reply found.0 run found.1 (same t) is)
+  effect o past shown _ reply _ _ _ _ (Leaves {ticket = t} got) run stood same =
       let found = found_of t (entries o past) (stood t) in
-      leaves o past shown t reply found.0 run found.1 (same t)
+      subst (Effect shown (was_filled past) (change past (Withdraw t) reply) (filled_by reply) (Some t)
+      None) got (leaves o past shown t reply found.0 run found.1 (same t))
   effect o past shown step reply _ _ _ _ Blocks run stood same =
       unparked o past shown step reply run.0 refl
   effect o past shown step reply _ _ _ _ Waits run stood same =
       unparked o past shown step reply run.0 refl
-  effect o past shown step reply _ _ _ _ (Hears is) run stood same =
+  effect o past shown step reply _ _ _ _ (Hears is gone) run stood same =
       unparked o past shown step reply run.0 refl
-  effect o past shown step reply _ _ _ _ (Withdraws is) run stood same =
+  effect o past shown step reply _ _ _ _ (Withdraws is gone) run stood same =
       unparked o past shown step reply run.0 refl

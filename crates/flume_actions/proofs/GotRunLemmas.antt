@@ -18,7 +18,8 @@ use Rattle.flume_model.proofs.waits.WaitingStepLemmas.{stepped}
 use Rattle.flume_actions.specs.Actions.{Action}
 use Rattle.flume_actions.specs.Together.{Interleaved}
 use Rattle.flume_actions.proofs.TurnLemmas.{Course}
-use Rattle.flume_actions.proofs.GotMemberLemmas.{Member, actions_of, parked_under, parked_else}
+use Rattle.flume_actions.proofs.PartyLemmas.{Member, actions_of}
+use Rattle.flume_actions.proofs.GotMemberLemmas.{parked_under, parked_else}
 use Rattle.flume_actions.proofs.GotMemberLemmas.{parked_one, next}
 use Rattle.flume_actions.proofs.GotDueLemmas.{Due, due_more, due_filled, due_none}
 use Rattle.flume_actions.proofs.GotEntryLemmas.{stands, stands_by, held_stands}

@@ -1,44 +1,67 @@
--- Parties, by their courses; those actions that are nobody's are one more party's, which does nothing.
-use Rattle.std.proofs.Common.{◌≡◌, Bool, true, false, not, List, [], ◌∷◌, refl, subst, arith, filter}
+-- Parties, each with its course. What moves no message is one more party's, which does nothing.
+use Rattle.std.proofs.Common.{◌≡◌, Bool, true, false, not, List, [], ◌∷◌, map, refl, ap, arith}
+use Rattle.std.proofs.Common.{filter}
 use Rattle.std.proofs.lemmas.Grind.{common_steps}
-use Rattle.flume_model.specs.declared.step.Step.{Step}
-use Rattle.flume_model.specs.declared.step.Reply.{Reply}
-use Rattle.flume_model.specs.Line.{messages}
-use Rattle.flume_actions.specs.Actions.{Action, moves_message, is_of_party}
+use Rattle.flume_party.specs.Interleavings.{Interleaving}
+use Rattle.flume_actions.specs.Actions.{Action, is_of_party}
 use Rattle.flume_actions.specs.Together.{Interleaved, EachAreCalls, NoParty, AndParty}
 use Rattle.flume_actions.proofs.MergeLemmas.{filter_merged}
-use Rattle.flume_actions.proofs.TurnLemmas.{Free, offered, gets, is_unparked, is_unblocked, Turn, Acts}
-use Rattle.flume_actions.proofs.TurnLemmas.{Course, course_from}
+use Rattle.flume_actions.proofs.TurnLemmas.{Stand, Free, Acts, Course, course_from}
 use Rattle.flume_actions.proofs.CallLemmas.{calls_course}
 
+-- a party: how it stands, what it is still to do, and what it sends and gets by that
+pub record Member (T A : Type 0) : Type 0 where
+  pub stand : Stand T
+  pub actions : List (Action T A)
+  pub sent : List T
+  pub got : List T
+  pub course : Course actions stand sent got
+
 module _ {T A : Type 0} where
-  -- each party's actions are a course, which sent and got the lists at its place
-  pub data EachCourse : List (List (Action T A)) → List (List T) → List (List T) → Type 0 where
-    NoCourse : EachCourse [] [] []
-    AndCourse : {actions : List (Action T A)} {others : List (List (Action T A))}
-        {sent got : List T} {sents gots : List (List T)} → Course actions Free sent got
-        → EachCourse others sents gots
-        → EachCourse (actions ∷ others) (sent ∷ sents) (got ∷ gots)
+  -- what each party is still to do
+  abbrev pub actions_of : List (Member T A) → List (List (Action T A))
+  actions_of members = map (λ member. member.actions) members
 
-  each_course : (parties : List (List (Action T A))) (sents gots : List (List T))
-      → EachAreCalls parties sents gots → EachCourse parties sents gots
-  each_course _ _ _ NoParty = NoCourse
-  each_course _ _ _
+  -- none is parked or blocked
+  abbrev pub AreFree : List (Member T A) → Type 0
+  AreFree [] = Unit {0}
+  AreFree (m ∷ members) = (m.stand ≡ Free) × AreFree members
+
+  -- the parties whose actions these are, and what each sends and gets
+  pub record Parties (all : List (Action T A)) (sents gots : List (List T)) : Type 0 where
+    pub members : List (Member T A)
+    pub free : AreFree members
+    pub merged : Interleaved (actions_of members) all
+    pub sents_are : map (λ member. member.sent) members ≡ sents
+    pub gots_are : map (λ member. member.got) members ≡ gots
+
+  -- one more
+  and_party : (actions others all : List (Action T A)) (sent got : List T) (sents gots : List (List T))
+      → Course actions Free sent got → Interleaving actions others all → Parties others sents gots
+      → Parties all (sent ∷ sents) (got ∷ gots)
+  and_party actions others all sent got sents gots course merged rest = record {
+    members = record { stand = Free; actions = actions; sent = sent; got = got; course = course }
+        ∷ rest.members;
+    free = (refl, rest.free);
+    merged = (others, rest.merged, merged);
+    sents_are = ap (λ lists. sent ∷ lists) rest.sents_are;
+    gots_are = ap (λ lists. got ∷ lists) rest.gots_are;
+  }
+
+  -- those that made whole calls
+  calling : (parties : List (List (Action T A))) (sents gots : List (List T))
+      (all : List (Action T A)) → EachAreCalls parties sents gots → Interleaved parties all
+      → Parties all sents gots
+  calling _ _ _ all NoParty none =
+      record { members = []; free = tt; merged = none; sents_are = refl; gots_are = refl }
+  calling _ _ _ all
       (AndParty {actions = actions} {others = others} {sent = sent} {got = got} {sents = sents}
-      {gots = gots} calls rest) =
-      AndCourse (calls_course actions sent got calls) (each_course others sents gots rest)
+      {gots = gots} calls rest)
+      merged =
+      and_party actions merged.0 all sent got sents gots (calls_course actions sent got calls)
+      merged.2 (calling others sents gots merged.0 rest merged.1)
 
-  -- an action that moves no message
-  free_turn : (step : Step T) (reply : Reply T A) → moves_message step ≡ false
-      → Turn Free step reply Free [] []
-  free_turn step reply is =
-      let parked : is_unparked step reply ≡ true = grind (arith, common_steps) in
-      let blocked : is_unblocked step reply ≡ true = grind (arith, common_steps) in
-      let sent : messages (offered step reply) ≡ [] = grind (arith, common_steps) in
-      let got : gets step reply ≡ [] = grind (arith, common_steps) in
-      subst (λ (z : List T × List T). Turn Free step reply Free z.0 z.1) (λ i. (sent i, got i))
-      (Acts parked blocked)
-
+  -- the course of those actions that move no message
   free_course : (history : List (Action T A))
       → Course (filter (λ p. not (is_of_party p)) history) Free [] []
   free_course [] = (refl, refl, refl)
@@ -48,19 +71,15 @@ module _ {T A : Type 0} where
           → Course (filter (λ p. not (is_of_party p)) later) Free [] []
           → Course (filter (λ p. not (is_of_party p)) (p ∷ later)) Free [] []
       by_case true is rest = rw is rest
-      by_case false is rest = rw is (course_from _ [] [] (free_turn p.0 p.1 is) rest)
+      by_case false is rest = rw is (course_from {sent_now = []} {got_now = []} _ [] []
+          (Acts (grind (arith, common_steps)) (grind (arith, common_steps))
+          (grind (arith, common_steps)) (grind (arith, common_steps))) rest)
 
-  -- all actions of a history are some parties'
-  pub record All (history : List (Action T A)) (sents gots : List (List T)) : Type 0 where
-    pub parties : List (List (Action T A))
-    pub merged : Interleaved parties history
-    pub courses : EachCourse parties sents gots
-
+  -- those of a whole history
   pub all_parties : (history : List (Action T A)) (parties : List (List (Action T A)))
       (sents gots : List (List T)) → Interleaved parties (filter is_of_party history)
-      → EachAreCalls parties sents gots → All history ([] ∷ sents) ([] ∷ gots)
-  all_parties history parties sents gots merged calls = record {
-    parties = filter (λ p. not (is_of_party p)) history ∷ parties;
-    merged = (filter is_of_party history, merged, filter_merged is_of_party history);
-    courses = AndCourse (free_course history) (each_course parties sents gots calls);
-  }
+      → EachAreCalls parties sents gots → Parties history ([] ∷ sents) ([] ∷ gots)
+  all_parties history parties sents gots merged calls =
+      and_party _ _ history [] [] sents gots (free_course history)
+      (filter_merged is_of_party history)
+      (calling parties sents gots (filter is_of_party history) calls merged)

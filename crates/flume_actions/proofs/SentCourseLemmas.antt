@@ -65,17 +65,17 @@ module _ {T A : Type 0} where
       (sent got : List T) → Turn before step reply after sent got
       → issues_by t step reply + blocked_under t before
       ≡ returns_by t step reply + passes_by t step reply + blocked_under t after
-  turn_counts t _ _ step reply _ _ (Acts parked is) =
+  turn_counts t _ _ step reply _ _ (Acts parked is sent got) =
       let none = unblocked_counts t step reply is in omega arith
   turn_counts t _ _ _ _ _ _ Parks = refl
   turn_counts t _ _ _ _ _ _ (Asks is) = refl
-  turn_counts t _ _ _ _ _ _ (Ends is) = refl
-  turn_counts t _ _ _ _ _ _ Leaves = refl
+  turn_counts t _ _ _ _ _ _ (Ends is got) = refl
+  turn_counts t _ _ _ _ _ _ (Leaves got) = refl
   turn_counts t _ _ _ _ _ _ Blocks = omega arith
   turn_counts t _ _ _ _ _ _ Waits = refl
-  turn_counts t _ _ _ reply _ _ (Hears {ticket = u} is) =
+  turn_counts t _ _ _ reply _ _ (Hears {ticket = u} is gone) =
       let one = ended_counts t u reply is in omega arith
-  turn_counts t _ _ _ reply _ _ (Withdraws {ticket = u} is) =
+  turn_counts t _ _ _ reply _ _ (Withdraws {ticket = u} is gone) =
       let one = ended_counts t u reply is in omega arith
 
   -- a course ends each ticket as often as it issues it, and once more if it begins with it
@@ -117,34 +117,38 @@ module _ {T A : Type 0} where
     unblocked_sent at_once _ reply is = refl
 
     -- one of a blocked send is kept if its message has gone
-    ended_sent : (m : T) (t : ℕ) (reply : Reply T A) → has_ended reply ≡ true
+    ended_sent : (m : T) (t : ℕ) (reply : Reply T A) (sent : List T) → has_ended reply ≡ true
+        → gone_by m reply ≡ sent
         → (1 ≤ returned_to t t reply → keeps (blocked_offer m t) ≡ false)
         → (1 ≤ passed_to t t reply → keeps (blocked_offer m t) ≡ true)
-        → kept_of keeps (AsSender m t) ++ [] ≡ gone_by m reply ++ []
-    ended_sent m t Accepted is gone stays =
-        ap (λ list. list ++ []) (kept_one keeps _ (stays (omega (arith, ap bit (eq-eqb t t refl)))))
-    ended_sent m t NoTicket is gone stays =
-        ap (λ list. list ++ []) (kept_one keeps _ (stays (omega (arith, ap bit (eq-eqb t t refl)))))
-    ended_sent m t (Returned back closed) is gone stays =
-        ap (λ list. list ++ []) (kept_none keeps _ (gone (omega (arith, ap bit (eq-eqb t t refl)))))
-    ended_sent m t _ is gone stays = absurd cc
+        → kept_of keeps (AsSender m t) ++ [] ≡ sent ++ []
+    ended_sent m t Accepted sent is sends gone stays =
+        let kept = stays (omega (arith, ap bit (eq-eqb t t refl))) in
+        ap (λ list. list ++ []) (kept_one keeps _ kept ∙ sends)
+    ended_sent m t NoTicket sent is sends gone stays =
+        let kept = stays (omega (arith, ap bit (eq-eqb t t refl))) in
+        ap (λ list. list ++ []) (kept_one keeps _ kept ∙ sends)
+    ended_sent m t (Returned back closed) sent is sends gone stays =
+        let none = gone (omega (arith, ap bit (eq-eqb t t refl))) in
+        ap (λ list. list ++ []) (kept_none keeps _ none ∙ sends)
+    ended_sent m t _ sent is sends gone stays = absurd cc
 
     turn_sent : (before after : Stand T) (step : Step T) (reply : Reply T A) (sent got : List T)
         → Turn before step reply after sent got → Judges keeps ((step, reply) ∷ [])
         → kept_of keeps before ++ sent_of keeps (step, reply) ≡ sent ++ kept_of keeps after
-    turn_sent _ _ step reply _ _ (Acts parked is) judges =
-        unblocked_sent judges.at_once step reply is ∙ sym (append-nil _)
+    turn_sent _ _ step reply _ _ (Acts parked is sent got) judges =
+        unblocked_sent judges.at_once step reply is ∙ (sent ∙ sym (append-nil _))
     turn_sent _ _ _ _ _ _ Parks judges = refl
     turn_sent _ _ _ _ _ _ (Asks is) judges = refl
-    turn_sent _ _ _ _ _ _ (Ends is) judges = refl
-    turn_sent _ _ _ _ _ _ Leaves judges = refl
+    turn_sent _ _ _ _ _ _ (Ends is got) judges = refl
+    turn_sent _ _ _ _ _ _ (Leaves got) judges = refl
     turn_sent _ _ _ _ _ _ Blocks judges = refl
     turn_sent _ _ _ _ _ _ Waits judges = append-nil _
-    turn_sent _ _ _ reply _ _ (Hears {message = m} {ticket = t} is) judges =
-        ended_sent m t reply is (λ some. judges.gone m t (omega (arith, some)))
+    turn_sent _ _ _ reply _ _ (Hears {message = m} {ticket = t} {sent = sent} is gone) judges =
+        ended_sent m t reply sent is gone (λ some. judges.gone m t (omega (arith, some)))
         (λ some. judges.stays m t (omega (arith, some)))
-    turn_sent _ _ _ reply _ _ (Withdraws {message = m} {ticket = t} is) judges =
-        ended_sent m t reply is (λ some. judges.gone m t (omega (arith, some)))
+    turn_sent _ _ _ reply _ _ (Withdraws {message = m} {ticket = t} {sent = sent} is gone) judges =
+        ended_sent m t reply sent is gone (λ some. judges.gone m t (omega (arith, some)))
         (λ some. judges.stays m t (omega (arith, some)))
 
     -- a course sends what its actions offer and keep, and what it begins with, if that is kept

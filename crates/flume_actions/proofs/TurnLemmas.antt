@@ -82,25 +82,27 @@ module _ {T A : Type 0} where
   -- one action of a party, how it stands before and after it, and what it sends and gets by it; a
   -- message that is blocked is sent as its send ends
   pub data Turn : Stand T → Step T → Reply T A → Stand T → (sent got : List T) → Type 0 where
-    Acts : {step : Step T} {reply : Reply T A} → is_unparked step reply ≡ true
-        → is_unblocked step reply ≡ true
-        → Turn Free step reply Free (messages (offered step reply)) (gets step reply)
+    Acts : {step : Step T} {reply : Reply T A} {sent got : List T} → is_unparked step reply ≡ true
+        → is_unblocked step reply ≡ true → messages (offered step reply) ≡ sent
+        → gets step reply ≡ got → Turn Free step reply Free sent got
     Parks : {kind : Kind} {ticket : ℕ}
         → Turn Free (Recv kind) (Parked ticket) (AsReceiver ticket) [] []
     Asks : {ticket : ℕ} {reply : Reply T A} → stays_parked reply ≡ true
         → Turn (AsReceiver ticket) (Poll ticket) reply (AsReceiver ticket) [] []
-    Ends : {ticket : ℕ} {reply : Reply T A} → stays_parked reply ≡ false
-        → Turn (AsReceiver ticket) (Poll ticket) reply Free [] (answered reply)
-    Leaves : {ticket : ℕ} {reply : Reply T A}
-        → Turn (AsReceiver ticket) (Withdraw ticket) reply Free [] (answered reply)
+    Ends : {ticket : ℕ} {reply : Reply T A} {got : List T} → stays_parked reply ≡ false
+        → answered reply ≡ got → Turn (AsReceiver ticket) (Poll ticket) reply Free [] got
+    Leaves : {ticket : ℕ} {reply : Reply T A} {got : List T} → answered reply ≡ got
+        → Turn (AsReceiver ticket) (Withdraw ticket) reply Free [] got
     Blocks : {message : T} {ticket : ℕ}
         → Turn Free (Send message) (Pending ticket) (AsSender message ticket) [] []
     Waits : {message : T} {ticket : ℕ}
         → Turn (AsSender message ticket) (PollSend ticket) Waiting (AsSender message ticket) [] []
-    Hears : {message : T} {ticket : ℕ} {reply : Reply T A} → has_ended reply ≡ true
-        → Turn (AsSender message ticket) (PollSend ticket) reply Free (gone_by message reply) []
-    Withdraws : {message : T} {ticket : ℕ} {reply : Reply T A} → has_ended reply ≡ true
-        → Turn (AsSender message ticket) (WithdrawSend ticket) reply Free (gone_by message reply) []
+    Hears : {message : T} {ticket : ℕ} {reply : Reply T A} {sent : List T}
+        → has_ended reply ≡ true → gone_by message reply ≡ sent
+        → Turn (AsSender message ticket) (PollSend ticket) reply Free sent []
+    Withdraws : {message : T} {ticket : ℕ} {reply : Reply T A} {sent : List T}
+        → has_ended reply ≡ true → gone_by message reply ≡ sent
+        → Turn (AsSender message ticket) (WithdrawSend ticket) reply Free sent []
 
   -- the first turn, and the rest
   pub record From (Rest : Stand T → List T → List T → Type 0) (p : Action T A) (before : Stand T)
