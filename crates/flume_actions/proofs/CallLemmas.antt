@@ -32,7 +32,7 @@ Sent T = Result (Unit {0}) (SendTimeoutError T)
 
 module _ {T A : Type 0} where
   -- a blocked send is one that is polled
-  blocked_polls : (t : ℕ) (made : List (Action T A)) (result : Sent T)
+  pub blocked_polls : (t : ℕ) (made : List (Action T A)) (result : Sent T)
       → IsBlockedSend t made result → IsBlockedPolls t made result
   blocked_polls t _ _ (sends.Ended is) = sends.Answered is
   blocked_polls t _ _ (sends.Late is done) = sends.Pending is (sends.Left done)
@@ -42,12 +42,13 @@ module _ {T A : Type 0} where
   -- what it did
   blocked_course : (m : T) (t : ℕ) (made : List (Action T A)) (result : Sent T)
       → IsBlockedPolls t made result → Course made (AsSender m t) (sent_by m result) []
-  blocked_course m t _ result (sends.Answered {reply = reply} is) =
+  blocked_course m t _ result (sends.Answered is) =
       course_of (Hears (grind (arith, common_steps)) (grind (arith, common_steps)))
-  blocked_course m t _ result (sends.Left {reply = reply} is) =
+  blocked_course m t _ result (sends.Left is) =
       course_of (Withdraws (grind (arith, common_steps)) (grind (arith, common_steps)))
-  blocked_course m t _ result (sends.Pending {reply = reply} {later = later} is more) =
-      course_from later (sent_by m result) [] (subst (λ r. Turn (AsSender m t) (PollSend t) r (AsSender m t) [] []) (grind (arith, common_steps)) Waits)
+  blocked_course m t _ result (sends.Pending {later = later} is more) =
+      course_from later (sent_by m result) []
+      (subst (λ r. Turn (AsSender m t) (PollSend t) r (AsSender m t) [] []) (grind (arith, common_steps)) Waits)
       (blocked_course m t later result more)
 
   polled_send_course : (m : T) (made : List (Action T A)) (result : Sent T)
@@ -55,7 +56,8 @@ module _ {T A : Type 0} where
   polled_send_course m _ result (sends.AtOnce is) =
       course_of (Acts refl (grind (arith, common_steps)) (grind (arith, common_steps)) refl)
   polled_send_course m _ result (sends.Polled {reply = reply} {ticket = t} {later = later} is more) =
-      course_from later (sent_by m result) [] (subst (λ r. Turn Free (Send m) r (AsSender m t) [] []) (grind (arith, common_steps)) Blocks)
+      course_from later (sent_by m result) []
+      (subst (λ r. Turn Free (Send m) r (AsSender m t) [] []) (grind (arith, common_steps)) Blocks)
       (blocked_course m t later result more)
 
   -- a send tries, and then may be as one that is polled
@@ -78,14 +80,14 @@ module _ {T A : Type 0} where
   -- a parked receive that is polled
   parked_course : (t : ℕ) (made : List (Action T A)) (result : Result T RecvTimeoutError)
       → IsParkedPolls t made result → Course made (AsReceiver t) [] (got_by result)
-  parked_course t _ result (receives.Answered {reply = reply} is) =
+  parked_course t _ result (receives.Answered is) =
       course_of (Ends (grind (arith, common_steps)) (grind (arith, common_steps)))
-  parked_course t _ result (receives.Left {reply = reply} is) =
+  parked_course t _ result (receives.Left is) =
       course_of (Leaves (grind (arith, common_steps)))
-  parked_course t _ result (receives.Pending {reply = reply} {later = later} is more) =
+  parked_course t _ result (receives.Pending {later = later} is more) =
       course_from later [] (got_by result) (Asks (grind (arith, common_steps)))
       (parked_course t later result more)
-  parked_course t _ result (receives.OutOfMemory {reply = reply} {later = later} is more) =
+  parked_course t _ result (receives.OutOfMemory {later = later} is more) =
       course_from later [] (got_by result) (Asks (grind (arith, common_steps)))
       (parked_course t later result more)
 
@@ -107,7 +109,7 @@ module _ {T A : Type 0} where
   -- one that blocks
   waiting_course : (t : ℕ) (made : List (Action T A)) (result : Result T RecvTimeoutError)
       → IsParkedReceive t made result → Course made (AsReceiver t) [] (got_by result)
-  waiting_course t _ result (receives.Ended {reply = reply} is) =
+  waiting_course t _ result (receives.Ended is) =
       parked_course t _ result (receives.Answered is)
   waiting_course t _ _ (receives.Refused {last = last} answer is done) =
       course_from ((Withdraw t, last) ∷ []) [] (got_by (got_or_no_memory answer))
@@ -139,12 +141,12 @@ module _ {T A : Type 0} where
   call_course : (made : List (Action T A)) (sent got : List T) → IsCall made sent got
       → Course made Free sent got
   call_course made _ _ (Sends {message = m} {result = result} is) = send_course m made result is
-  call_course _ _ _ (TriesToSend {message = m} {reply = reply} next is) =
+  call_course _ _ _ (TriesToSend next is) =
       course_of (Acts refl refl (grind (arith, common_steps)) refl)
   call_course made _ _ (PollsToSend {message = m} {result = result} is) =
       polled_send_course m made result is
   call_course made _ _ (Receives {result = result} is) = receive_course made result is
-  call_course _ _ _ (TriesToReceive {reply = reply} next is) =
+  call_course _ _ _ (TriesToReceive next is) =
       course_of (Acts refl refl refl (grind (arith, common_steps)))
   call_course made _ _ (PollsToReceive {kind = kind} {result = result} is) =
       polled_receive_course kind made result is

@@ -30,5 +30,7 @@ mod SentCourseLemmas
 mod SentOrderLemmas
 -- What whole calls sent is what they got.
 mod ExchangeLemmas
+-- The message that comes back from a call that sends is the one that it offered.
+mod ComesBackLemmas
 -- What callers cite: calls one after the other, and parties that become one again.
 pub mod CallerLemmas

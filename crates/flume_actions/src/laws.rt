@@ -1,6 +1,10 @@
 //! Laws of what parties did. These functions do nothing: each contract is a law.
-ghost use Rattle.std.specs.Prelude.{◌≡◌, ℕ, true, List, Option};
+ghost use Rattle.std.specs.Prelude.{◌≡◌, ℕ, Bool, true, List, Option, Err};
+ghost use Rattle.std.specs.List.{All, Contains};
+ghost use Rattle.flume_error.specs.Messages.{send_timeout_message};
+ghost use Rattle.flume_core.specs.declared.error.SendTimeoutError.{SendTimeoutError};
 ghost use Rattle.flume_actions.specs.Actions.{Action, IsWhole};
+ghost use Rattle.flume_actions.specs.SendCalls.{IsSend, IsPolledSend};
 ghost use Rattle.flume_actions.specs.Together.{Interleaved, EachAreCalls, AreExchanged};
 
 use std::alloc::Allocator;
@@ -12,4 +16,17 @@ pub fn what_was_sent_is_what_was_got<T, A: Allocator>()
     ensures law { (capacity : Option ℕ) (parties : List (List (Action T A))) (all : List (Action T A))
         (sents gots : List (List T)) → Interleaved parties all → EachAreCalls parties sents gots
         → IsWhole capacity all true → AreExchanged sents gots }
+{}
+
+/// If some actions of a send are among all that parties did, then the message that comes back with
+/// its error is the one that it offered, also if it waited.
+pub fn what_comes_back_is_what_was_offered<T, A: Allocator>()
+    ensures send { (capacity : Option ℕ) (is_emptied : Bool) (all made : List (Action T A))
+        (message : T) (error : SendTimeoutError T) → IsWhole capacity all is_emptied
+        → All (Contains all) made → IsSend message made (Err error)
+        → send_timeout_message error ≡ message }
+    ensures polled_send { (capacity : Option ℕ) (is_emptied : Bool) (all made : List (Action T A))
+        (message : T) (error : SendTimeoutError T) → IsWhole capacity all is_emptied
+        → All (Contains all) made → IsPolledSend message made (Err error)
+        → send_timeout_message error ≡ message }
 {}
