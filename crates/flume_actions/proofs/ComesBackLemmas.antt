@@ -6,9 +6,9 @@ use Rattle.std.proofs.lemmas.List.Elements.{All-nil, All-cons, All-head, All-tai
 use Rattle.std.proofs.lemmas.List.Elements.{All-filter, All-drop, All-contains, All-contains_itself}
 use Rattle.std.proofs.lemmas.List.Elements.{Contains-push, Contains-push_cases, Contains-append_left}
 use Rattle.std.proofs.lemmas.List.Elements.{Contains-append_cases}
+use Rattle.std.proofs.lemmas.List.Sorted.{All-permutation, IsPermutation-reverse, IsPermutation-sym}
 use Rattle.std.specs.Prelude.{Err, reverse}
 use Rattle.std.specs.List.{All, Contains}
-use mathlib.Core.List.{reverse_aux}
 use Rattle.flume_model.specs.declared.step.Step.{Step}
 use Rattle.flume_model.specs.declared.step.Step.TheVariants.{TrySend, Send, PollSend, WithdrawSend}
 use Rattle.flume_model.specs.declared.step.Reply.{Reply}
@@ -29,7 +29,6 @@ use Rattle.flume_actions.specs.Actions.{Action, IsWhole, is_of_party}
 use Rattle.flume_actions.specs.SendCalls.{IsSend, Tried, Unable, NotBlocked, Blocked, IsBlockedPolls, Answered}
 use Rattle.flume_actions.specs.SendCalls.{Left, Pending as Waits, IsPolledSend, AtOnce, Polled}
 use Rattle.flume_actions.proofs.CallLemmas.{blocked_polls}
-use Rattle.flume_actions.proofs.GotShownLemmas.{run_before}
 use Rattle.flume_actions.proofs.SentCourseLemmas.{blocked_offer}
 
 -- an earlier ticket is another, and a later one
@@ -107,6 +106,7 @@ module _ {T A : Type 0} where
       in_line false = All-drop (Contains (offers past)) (hand_outs past) (kept past)
           (All-filter _ (Contains (offers past)) (offers past) (All-contains_itself (offers past)))
 
+  -- after its step
   known_now : (o : Opening) (past : Log T A) (step : Step T) (reply : Reply T A)
       → IsReply (channel o past) step reply → Known (offers past ++ offers_made (change past step reply)) step reply
   known_now o past (TrySend m) (Full back) is = is.1
@@ -122,6 +122,7 @@ module _ {T A : Type 0} where
       Contains-append_left (offers past) _ (blocked_offer m t) (blocked_known o past t m is.0)
   known_now o past _ _ is = tt
 
+  -- and later
   known_later : (some more : List (Offer T)) (step : Step T) (reply : Reply T A) → Known some step reply
       → Known (some ++ more) step reply
   known_later some more (Send m) (Pending t) known = Contains-append_left some more _ known
@@ -129,19 +130,13 @@ module _ {T A : Type 0} where
   known_later some more (WithdrawSend t) (Returned m closed) known = Contains-append_left some more _ known
   known_later some more _ _ known = known
 
-  -- to the end of a run
-  known_to_end : (rest : List (Action T A)) (past : Log T A) (step : Step T) (reply : Reply T A)
-      → Known (offers past) step reply → Known (offers (reverse_aux rest past)) step reply
-  known_to_end [] past step reply known = known
-  known_to_end (p ∷ rest) past step reply known =
-      known_to_end rest (p ∷ past) step reply (known_later (offers past) _ step reply known)
-
-  all_known : (o : Opening) (rest : List (Action T A)) (past : Log T A) → IsRun o (reverse_aux rest past)
-      → All (IsKnown (offers (reverse_aux rest past))) rest
-  all_known o [] past run = All-nil (IsKnown (offers past))
-  all_known o (p ∷ rest) past run =
-      All-cons (IsKnown (offers (reverse_aux rest (p ∷ past)))) p rest (known_to_end rest (p ∷ past) p.0 p.1
-      (known_now o past p.0 p.1 (run_before o rest (p ∷ past) run).0)) (all_known o rest (p ∷ past) run)
+  -- of all actions
+  all_known : (o : Opening) (log : Log T A) → IsRun o log → All (IsKnown (offers log)) log
+  all_known o [] run = All-nil (IsKnown [])
+  all_known o (p ∷ past) run =
+      let P : Action T A → Type 0 = IsKnown (offers (p ∷ past)) in
+      All-cons P p past (known_now o past p.0 p.1 run.0)
+      (All-weaker (IsKnown (offers past)) P (λ q. known_later (offers past) _ q.0 q.1) past (all_known o past run.1))
 
   -- what is known of the actions of a call, and of the offers of its run
   pub record Run (made : List (Action T A)) : Type 0 where
@@ -156,8 +151,9 @@ module _ {T A : Type 0} where
       let o = opens capacity 1 in
       let log : Log T A = reverse whole.history in
       let P : Action T A → Type 0 = IsKnown (offers log) in
+      let order = IsPermutation-sym whole.history log (IsPermutation-reverse whole.history) in
       let known = All-same P all _ whole.all
-      (All-filter is_of_party P whole.history (all_known o whole.history [] whole.run)) in
+      (All-filter is_of_party P whole.history (All-permutation P log whole.history order (all_known o log whole.run))) in
       record {
         some = offers log;
         same = λ t m back. same_message (next_ticket o log) t m back (offers log) (tickets_rise o log whole.run);
@@ -166,9 +162,12 @@ module _ {T A : Type 0} where
 
   -- of the actions after the first
   abbrev run_later : (p : Action T A) (made : List (Action T A)) → Run (p ∷ made) → Run made
-  run_later p made run = record { some = run.some; same = run.same; known = All-tail (IsKnown run.some) p made run.known }
+  run_later p made run =
+      record { some = run.some; same = run.same; known = All-tail (IsKnown run.some) p made run.known }
 
-  run_now : (step : Step T) (reply : Reply T A) (made : List (Action T A)) (run : Run ((step, reply) ∷ made)) → Known run.some step reply
+  -- and of the first
+  run_now : (step : Step T) (reply : Reply T A) (made : List (Action T A))
+      (run : Run ((step, reply) ∷ made)) → Known run.some step reply
   run_now step reply made run = All-head (IsKnown run.some) (step, reply) made run.known
 
   -- a blocked send

@@ -18,8 +18,8 @@ pub fn what_was_sent_is_what_was_got<T, A: Allocator>()
         → IsWhole capacity all true → AreExchanged sents gots }
 {}
 
-/// If some actions of a send are among all that parties did, then the message that comes back with
-/// its error is the one that it offered, also if it waited.
+/// If the actions of a call that sends are among those that parties did, then the message that
+/// comes back with its error is the one that it offered, also after a wait.
 pub fn what_comes_back_is_what_was_offered<T, A: Allocator>()
     ensures send { (capacity : Option ℕ) (is_emptied : Bool) (all made : List (Action T A))
         (message : T) (error : SendTimeoutError T) → IsWhole capacity all is_emptied
