@@ -83,7 +83,7 @@ module _ {T A : Type 0} where
   parked_course t _ result (receives.Answered is) =
       course_of (Ends (grind (arith, common_steps)) (grind (arith, common_steps)))
   parked_course t _ result (receives.Left is) =
-      course_of (Leaves (grind (arith, common_steps)))
+      course_of (Leaves (grind (arith, common_steps)) (grind (arith, common_steps)))
   parked_course t _ result (receives.Pending {later = later} is more) =
       course_from later [] (got_by result) (Asks (grind (arith, common_steps)))
       (parked_course t later result more)
@@ -113,7 +113,7 @@ module _ {T A : Type 0} where
       parked_course t _ result (receives.Answered is)
   waiting_course t _ _ (receives.Refused {last = last} answer is done) =
       course_from ((Withdraw t, last) ∷ []) [] (got_by (got_or_no_memory answer))
-      (Asks (grind (arith, common_steps))) (course_of (Leaves (grind (arith, common_steps))))
+      (Asks (grind (arith, common_steps))) (course_of (Leaves (grind (arith, common_steps)) (grind (arith, common_steps))))
   waiting_course t _ result (receives.Late is done) =
       parked_course t _ result (receives.Pending is (receives.Left done))
   waiting_course t _ result (receives.Waited {later = later} is more) =

@@ -6,58 +6,42 @@ use Rattle.std.proofs.lemmas.Grind.{common_steps}
 use Rattle.flume_model.specs.declared.step.Step.{Step}
 use Rattle.flume_model.specs.declared.step.Step.TheVariants.{Recv, Poll, Withdraw}
 use Rattle.flume_model.specs.declared.step.Reply.{Reply}
-use Rattle.flume_model.specs.declared.step.Reply.TheVariants.{NoMemory, NoTicket, Waiting}
+use Rattle.flume_model.specs.declared.step.Reply.TheVariants.{NoMemory, NoTicket, Waiting, Got, Ended, Gone}
 use Rattle.flume_model.specs.declared.step.Reply.TheVariants.{Parked}
 use Rattle.flume_model.specs.Log.{Log, Opening, Takes}
 use Rattle.flume_model.specs.Log.{Collects, Leaves as LeavesUnder, change, was_filled, filled_by}
 use Rattle.flume_model.specs.Fills.{shows_to}
-use Rattle.flume_model.specs.Entries.{entry_of, is_filled}
+use Rattle.flume_model.specs.Entries.{entry_of}
 use Rattle.flume_model.specs.Asking.{IsPollReply, IsWithdrawReply}
 use Rattle.flume_model.specs.Channel.{Channel, channel}
 use Rattle.flume_model.specs.Parked.{LogEntry, entries}
 use Rattle.flume_model.specs.Replies.{IsRun}
-use Rattle.flume_model.specs.WaitLaws.{FilledIfNamed}
-use Rattle.flume_model.proofs.AskingCaseLemmas.{polled_cases, gone_cases}
 use Rattle.flume_model.proofs.EntryShapeLemmas.{entered, filled_if_named, fits_run}
 use Rattle.flume_actions.proofs.TurnLemmas.{Stand, parked_of, Turn, Acts, Parks, Asks, Ends, Leaves}
-use Rattle.flume_actions.proofs.TurnLemmas.{Blocks, Waits, Hears, Withdraws, answered, stays_parked}
+use Rattle.flume_actions.proofs.TurnLemmas.{Blocks, Waits, Hears, Withdraws, answered, stays_parked, is_last}
 use Rattle.flume_actions.proofs.GotMemberLemmas.{here}
 use Rattle.flume_actions.proofs.GotEntryLemmas.{stands}
 use Rattle.flume_actions.proofs.GotEffectLemmas.{in_hand, Effect, unparked}
 
 module _ {T : Type 0} where
-  -- a filled receiver collects its message
-  collected : (shown : ℕ → Option T) (was : ℕ → Bool) (t : ℕ) (m : T) → was t ≡ true
-      → shown t ≡ Some m
+  -- a parked receiver gets a message: it collects it if it was filled, and else takes the front
+  parked_got : (shown : ℕ → Option T) (was : ℕ → Bool) (t : ℕ) (m : T) → shown t ≡ Some m
       → Effect shown was (if was t then Collects t else Takes m (Some t)) None (Some t) None
       (m ∷ [])
-  collected shown was t m is same = rw is (record {
-    own = [];
-    moves = λ u. omega arith;
-    shows = rw (is, same) refl;
-    hands = refl;
-  })
-
-  -- one that isn't takes the front
-  taken : (shown : ℕ → Option T) (was : ℕ → Bool) (t : ℕ) (m : T) → was t ≡ false
-      → Effect shown was (if was t then Collects t else Takes m (Some t)) None (Some t) None
-      (m ∷ [])
-  taken shown was t m is = rw is (record {
-    own = m ∷ [];
-    moves = λ u. omega arith;
-    shows = rw is refl;
-    hands = refl;
-  })
+  parked_got shown was t m same = by_case (was t) refl
+    where
+      by_case : (b : Bool) → was t ≡ b
+          → Effect shown was (if b then Collects t else Takes m (Some t)) None (Some t) None (m ∷ [])
+      by_case true is =
+          record { own = []; moves = λ u. omega arith; shows = rw (is, same) refl; hands = refl }
+      by_case false is =
+          record { own = m ∷ []; moves = λ u. omega arith; shows = rw is refl; hands = refl }
 
   -- or leaves without one
-  left : (shown : ℕ → Option T) (was : ℕ → Bool) (t : ℕ) (filled : Option ℕ) → was t ≡ false
+  parked_left : (shown : ℕ → Option T) (was : ℕ → Bool) (t : ℕ) (filled : Option ℕ) → was t ≡ false
       → Effect shown was (LeavesUnder t filled) filled (Some t) None []
-  left shown was t filled is = record {
-    own = [];
-    moves = λ u. omega arith;
-    shows = rw is refl;
-    hands = refl;
-  }
+  parked_left shown was t filled is =
+      record { own = []; moves = λ u. omega arith; shows = rw is refl; hands = refl }
 
   -- one that is parked doesn't hear that it isn't
   poll_known : (A : Type 0) (c : Channel T) (e : LogEntry T)
@@ -102,70 +86,39 @@ module _ {T A : Type 0} where
   ends : (o : Opening) (past : Log T A) (shown : ℕ → Option T) (t : ℕ) (reply : Reply T A)
       (e : LogEntry T) → IsRun o ((Poll t, reply) ∷ past) → entry_of t (entries o past) ≡ Some e
       → ((m : T) → shows_to t (Poll t) reply ≡ Some m → shown t ≡ Some m)
-      → stays_parked reply ≡ false
+      → is_last (Poll t) reply ≡ true
       → Effect shown (was_filled past) (change past (Poll t) reply) (filled_by reply) (Some t) None
       (answered reply)
-  ends o past shown t reply e run found same ended =
-      polled_cases (channel o past) t P reply run.0 (record {
-        unknown = λ not h s. absurd (not refl);
-        collects = λ e held found is not h s.
-            collected shown (was_filled past) t held (named t e found ∙ ap is_filled is)
-            (s held (ap (λ b. if b then Some held else None) (eq-eqb t t refl)));
-        takes = λ u m front not h s.
-            taken shown (was_filled past) t m (named t u.entry u.found ∙ u.empty);
-        waits_on = λ u woken not h s. absurd (let none : ⊥ = cc in none);
-        ends = λ u empty not h s.
-            left shown (was_filled past) t None (named t u.entry u.found ∙ u.empty);
-        refused = λ back not h s. absurd (let none : ⊥ = cc in none);
-      }) not_unknown ended same
-    where
-      named : FilledIfNamed o past
-      named = filled_if_named o past run.1
-
-      P : Reply T A → Type 0
-      P r = (r ≡ NoTicket → ⊥) → stays_parked r ≡ false
-          → ((m : T) → shows_to t (Poll t) r ≡ Some m → shown t ≡ Some m)
-          → Effect shown (was_filled past) (change past (Poll t) r) (filled_by r) (Some t) None
-          (answered r)
-
-      not_unknown : reply ≡ NoTicket → ⊥
-      not_unknown is = poll_known A (channel o past) e
-          (subst (IsPollReply (channel o past) (Some e)) is
-          (subst (λ f. IsPollReply (channel o past) f reply) found run.0))
+  ends o past shown t (Got m) e run found same last =
+      parked_got shown (was_filled past) t m
+      (same m (ap (λ b. if b then Some m else None) (eq-eqb t t refl)))
+  ends o past shown t Ended e run found same last =
+      let u = (fits_run o past (Poll t, Ended) run).0 in
+      parked_left shown (was_filled past) t None
+      (filled_if_named o past run.1 t u.entry u.found ∙ u.empty)
+  ends o past shown t NoTicket e run found same last =
+      absurd (poll_known A (channel o past) e
+      (subst (λ f. IsPollReply {A = A} (channel o past) f NoTicket) found run.0))
+  ends o past shown t _ e run found same last = absurd cc
 
   -- it withdraws
   leaves : (o : Opening) (past : Log T A) (shown : ℕ → Option T) (t : ℕ) (reply : Reply T A)
       (e : LogEntry T) → IsRun o ((Withdraw t, reply) ∷ past) → entry_of t (entries o past) ≡ Some e
       → ((m : T) → shows_to t (Withdraw t) reply ≡ Some m → shown t ≡ Some m)
+      → is_last (Withdraw t) reply ≡ true
       → Effect shown (was_filled past) (change past (Withdraw t) reply) (filled_by reply) (Some t)
       None (answered reply)
-  leaves o past shown t reply e run found same =
-      gone_cases (channel o past) t P reply run.0 (record {
-        unknown = λ not s. absurd (not refl);
-        collects = λ e held found is not s.
-            collected shown (was_filled past) t held (named t e found ∙ ap is_filled is)
-            (s held (ap (λ b. if b then Some held else None) (eq-eqb t t refl)));
-        takes = λ u m front not s.
-            taken shown (was_filled past) t m (named t u.entry u.found ∙ u.empty);
-        fills_none = λ u closed empty not s.
-            left shown (was_filled past) t None (named t u.entry u.found ∙ u.empty);
-        passes_on = λ u closed not s.
-            left shown (was_filled past) t _ (named t u.entry u.found ∙ u.empty);
-      }) not_unknown same
-    where
-      named : FilledIfNamed o past
-      named = filled_if_named o past run.1
-
-      P : Reply T A → Type 0
-      P r = (r ≡ NoTicket → ⊥)
-          → ((m : T) → shows_to t (Withdraw t) r ≡ Some m → shown t ≡ Some m)
-          → Effect shown (was_filled past) (change past (Withdraw t) r) (filled_by r) (Some t) None
-          (answered r)
-
-      not_unknown : reply ≡ NoTicket → ⊥
-      not_unknown is = withdraw_known A (channel o past) t e
-          (subst (IsWithdrawReply (channel o past) t (Some e)) is
-          (subst (λ f. IsWithdrawReply (channel o past) t f reply) found run.0))
+  leaves o past shown t (Got m) e run found same last =
+      parked_got shown (was_filled past) t m
+      (same m (ap (λ b. if b then Some m else None) (eq-eqb t t refl)))
+  leaves o past shown t (Gone closed filled) e run found same last =
+      let u = (fits_run o past (Withdraw t, Gone closed filled) run).0 in
+      parked_left shown (was_filled past) t filled
+      (filled_if_named o past run.1 t u.entry u.found ∙ u.empty)
+  leaves o past shown t NoTicket e run found same last =
+      absurd (withdraw_known A (channel o past) t e
+      (subst (λ f. IsWithdrawReply {A = A} (channel o past) t f NoTicket) found run.0))
+  leaves o past shown t _ e run found same last = absurd cc
 
   -- each turn of a party
   pub effect : (o : Opening) (past : Log T A) (shown : ℕ → Option T) (step : Step T)
@@ -193,10 +146,10 @@ module _ {T A : Type 0} where
       let found = found_of t (entries o past) (stood t) in
       subst (Effect shown (was_filled past) (change past (Poll t) reply) (filled_by reply) (Some t) None)
       got (ends o past shown t reply found.0 run found.1 (same t) is)
-  effect o past shown _ reply _ _ _ _ (Leaves {ticket = t} got) run stood same =
+  effect o past shown _ reply _ _ _ _ (Leaves {ticket = t} is got) run stood same =
       let found = found_of t (entries o past) (stood t) in
       subst (Effect shown (was_filled past) (change past (Withdraw t) reply) (filled_by reply) (Some t)
-      None) got (leaves o past shown t reply found.0 run found.1 (same t))
+      None) got (leaves o past shown t reply found.0 run found.1 (same t) is)
   effect o past shown step reply _ _ _ _ Blocks run stood same =
       unparked o past shown step reply run.0 refl
   effect o past shown step reply _ _ _ _ Waits run stood same =

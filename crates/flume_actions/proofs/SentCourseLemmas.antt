@@ -70,7 +70,7 @@ module _ {T A : Type 0} where
   turn_counts t _ _ _ _ _ _ Parks = refl
   turn_counts t _ _ _ _ _ _ (Asks is) = refl
   turn_counts t _ _ _ _ _ _ (Ends is got) = refl
-  turn_counts t _ _ _ _ _ _ (Leaves got) = refl
+  turn_counts t _ _ _ _ _ _ (Leaves is got) = refl
   turn_counts t _ _ _ _ _ _ Blocks = omega arith
   turn_counts t _ _ _ _ _ _ Waits = refl
   turn_counts t _ _ _ reply _ _ (Hears {ticket = u} is gone) =
@@ -141,7 +141,7 @@ module _ {T A : Type 0} where
     turn_sent _ _ _ _ _ _ Parks judges = refl
     turn_sent _ _ _ _ _ _ (Asks is) judges = refl
     turn_sent _ _ _ _ _ _ (Ends is got) judges = refl
-    turn_sent _ _ _ _ _ _ (Leaves got) judges = refl
+    turn_sent _ _ _ _ _ _ (Leaves is got) judges = refl
     turn_sent _ _ _ _ _ _ Blocks judges = refl
     turn_sent _ _ _ _ _ _ Waits judges = append-nil _
     turn_sent _ _ _ reply _ _ (Hears {message = m} {ticket = t} {sent = sent} is gone) judges =

@@ -8,8 +8,8 @@ use Rattle.flume_model.specs.declared.step.Step.TheVariants.{TryRecv, Recv, Poll
 use Rattle.flume_model.specs.declared.step.Kind.{Kind}
 use Rattle.flume_model.specs.declared.step.Reply.{Reply}
 use Rattle.flume_model.specs.declared.step.Reply.TheVariants.{Sent, Pending, Accepted, Returned}
-use Rattle.flume_model.specs.declared.step.Reply.TheVariants.{NoTicket, NoMemory, Waiting, Got}
-use Rattle.flume_model.specs.declared.step.Reply.TheVariants.{Parked, Drained}
+use Rattle.flume_model.specs.declared.step.Reply.TheVariants.{NoTicket, NoMemory, Waiting, Got, Ended}
+use Rattle.flume_model.specs.declared.step.Reply.TheVariants.{Parked, Gone, Drained}
 use Rattle.flume_model.specs.Log.{Offer}
 use Rattle.flume_model.specs.Line.{messages}
 use Rattle.flume_actions.specs.Actions.{Action}
@@ -62,6 +62,16 @@ module _ {T A : Type 0} where
   stays_parked (NoMemory back) = true
   stays_parked _ = false
 
+  -- whether a parked receiver that is answered so isn't parked any more
+  abbrev pub is_last : Step T → Reply T A → Bool
+  is_last (Poll ticket) (Got message) = true
+  is_last (Poll ticket) Ended = true
+  is_last (Poll ticket) NoTicket = true
+  is_last (Withdraw ticket) (Got message) = true
+  is_last (Withdraw ticket) (Gone closed filled) = true
+  is_last (Withdraw ticket) NoTicket = true
+  is_last _ _ = false
+
   -- the message that a parked receiver is answered
   abbrev pub answered : Reply T A → List T
   answered (Got message) = message ∷ []
@@ -89,9 +99,10 @@ module _ {T A : Type 0} where
         → Turn Free (Recv kind) (Parked ticket) (AsReceiver ticket) [] []
     Asks : {ticket : ℕ} {reply : Reply T A} → stays_parked reply ≡ true
         → Turn (AsReceiver ticket) (Poll ticket) reply (AsReceiver ticket) [] []
-    Ends : {ticket : ℕ} {reply : Reply T A} {got : List T} → stays_parked reply ≡ false
-        → answered reply ≡ got → Turn (AsReceiver ticket) (Poll ticket) reply Free [] got
-    Leaves : {ticket : ℕ} {reply : Reply T A} {got : List T} → answered reply ≡ got
+    Ends : {ticket : ℕ} {reply : Reply T A} {got : List T}
+        → is_last (Poll ticket) reply ≡ true → answered reply ≡ got → Turn (AsReceiver ticket) (Poll ticket) reply Free [] got
+    Leaves : {ticket : ℕ} {reply : Reply T A} {got : List T}
+        → is_last (Withdraw ticket) reply ≡ true → answered reply ≡ got
         → Turn (AsReceiver ticket) (Withdraw ticket) reply Free [] got
     Blocks : {message : T} {ticket : ℕ}
         → Turn Free (Send message) (Pending ticket) (AsSender message ticket) [] []
