@@ -100,7 +100,8 @@ module _ {T A : Type 0} where
     Asks : {ticket : ℕ} {reply : Reply T A} → stays_parked reply ≡ true
         → Turn (AsReceiver ticket) (Poll ticket) reply (AsReceiver ticket) [] []
     Ends : {ticket : ℕ} {reply : Reply T A} {got : List T}
-        → is_last (Poll ticket) reply ≡ true → answered reply ≡ got → Turn (AsReceiver ticket) (Poll ticket) reply Free [] got
+        → is_last (Poll ticket) reply ≡ true → answered reply ≡ got
+        → Turn (AsReceiver ticket) (Poll ticket) reply Free [] got
     Leaves : {ticket : ℕ} {reply : Reply T A} {got : List T}
         → is_last (Withdraw ticket) reply ≡ true → answered reply ≡ got
         → Turn (AsReceiver ticket) (Withdraw ticket) reply Free [] got
