@@ -3,12 +3,10 @@ use Rattle.std.proofs.Common.{◌≡◌, ℕ, ◌+◌, Bool, true, false, List, 
 use Rattle.std.proofs.Common.{None}
 use Rattle.std.proofs.Common.{refl, ap, sym, ◌∙◌, arith, if◌then◌else◌, eqb, eq-eqb, eqb-true}
 use Rattle.std.proofs.Common.{ne_eqb}
+use Rattle.std.proofs.lemmas.Bool.Decides.{nat_tests}
 use Rattle.std.proofs.lemmas.Grind.{common_steps}
 use Rattle.flume_model.specs.declared.entry.Entry.{Entry}
-use Rattle.flume_model.specs.declared.entry.Mark.{Mark}
-use Rattle.flume_model.specs.declared.entry.Mark.TheVariants.{Waiting, Woken, Filled}
-use Rattle.flume_model.specs.declared.step.Kind.{Kind}
-use Rattle.flume_model.specs.declared.step.Kind.TheVariants.{Block, Plain, Stream, Arm}
+use Rattle.flume_model.specs.declared.entry.Mark.TheVariants.{Waiting}
 use Rattle.flume_model.specs.Log.{Change, Queues, Takes, Parks, Asks, Collects, Leaves}
 use Rattle.flume_model.specs.Log.{SenderLeaves}
 use Rattle.flume_model.specs.Log.{ReceiverLeaves, is_ticket}
@@ -72,16 +70,10 @@ module _ {T : Type 0} where
   stands_without : (n u t : ℕ) (e : LogEntry T) (es : List (LogEntry T)) → DistinctTickets n es
       → entry_of u es ≡ Some e
       → stands t (without_ticket u es) + here t (Some u) ≡ stands t es
-  stands_without n u t e es apart found = by_case (eqb u t) refl
-    where
-      by_case : (b : Bool) → eqb u t ≡ b
-          → stands t (without_ticket u es) + (if b then 1 else 0) ≡ stands t es
-      by_case true is =
-          let same : t ≡ u = sym (eqb-true u t is) in
-          let gone = ap is_there (left_out n u es apart) in
-          let there = ap is_there found in
-          rw same (omega (arith, gone, there))
-      by_case false is = omega (arith, ap is_there (found_without u t es is))
+  stands_without n u t e es apart found =
+      let gone = left_out n u es apart in
+      let others = found_without u t es in
+      grind (arith, common_steps, nat_tests, gone, others)
 
   -- the ticket of the receiver that leaves by a change, if one does
   abbrev pub leaver : Change T → Option ℕ
@@ -140,34 +132,9 @@ module _ {T : Type 0} where
       → round_fills es ≡ Some t → entry_of t es ≡ Some e → is_filled e.mark ≡ false
   round_empty n t e [] apart is found = absurd (let none : ⊥ = cc in none)
   round_empty n t e (x ∷ es) apart is found =
-      by_mark x.kind x.mark is found (round_empty n t e es apart.2)
-    where
-      as_marked : Kind → Mark T → LogEntry T
-      as_marked k mark = record x { kind = k; mark = mark }
-
-      Deeper : Type 0
-      Deeper = round_fills es ≡ Some t → entry_of t es ≡ Some e → is_filled e.mark ≡ false
-
-      other : round_fills es ≡ Some t → eqb x.ticket t ≡ false
-      other fills_t =
-          let another : eqb t x.ticket ≡ false =
-          sym (ap (is_ticket x.ticket) fills_t) ∙ fills_none_else x.ticket es apart.1 in
-          ne_eqb x.ticket t (λ same.
-          (let is_it = eq-eqb t x.ticket (sym same) in let none : ⊥ = cc in none))
-
-      by_mark : (k : Kind) (mark : Mark T) → round_fills (as_marked k mark ∷ es) ≡ Some t
-          → entry_of t (as_marked k mark ∷ es) ≡ Some e → Deeper → is_filled e.mark ≡ false
-      by_mark Block Waiting is found rest =
-          let same : x.ticket ≡ t = cc in
-          let it = eq-eqb x.ticket t same in
-          let first : Some (as_marked Block Waiting) ≡ Some e = rw it at found in
-          let mine : as_marked Block Waiting ≡ e = cc in
-          ap (λ y. is_filled y.mark) (sym mine)
-      by_mark Plain Waiting is found rest = absurd (let none : ⊥ = cc in none)
-      by_mark Stream Waiting is found rest = rest is (rw (other is) at found)
-      by_mark Arm Waiting is found rest = absurd (let none : ⊥ = cc in none)
-      by_mark k Woken is found rest = rest is (rw (other is) at found)
-      by_mark k (Filled held) is found rest = rest is (rw (other is) at found)
+      let deeper = round_empty n t e es apart.2 in
+      let another = fills_none_else x.ticket es apart.1 in
+      grind (arith, common_steps, nat_tests, deeper, another)
 
   -- the entry that a change fills wasn't filled
   pub filled_was_empty : (c : Channel T) (done : Change T) (t : ℕ) (e : LogEntry T) → Fits c done

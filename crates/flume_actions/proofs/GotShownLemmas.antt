@@ -1,7 +1,8 @@
 -- What is shown to a receiver stays so to the end of a run, and what it was handed before a fill.
 use Rattle.std.proofs.Common.{◌≡◌, ℕ, ◌||◌, Bool, true, false, List, [], ◌∷◌, Option, Some}
-use Rattle.std.proofs.Common.{None, refl, ap, sym, eqb, eq-eqb, eqb-true}
-use Rattle.std.proofs.Common.{ne_eqb}
+use Rattle.std.proofs.Common.{None, refl, ap, arith}
+use Rattle.std.proofs.lemmas.Bool.Decides.{nat_tests}
+use Rattle.std.proofs.lemmas.Grind.{common_steps}
 use Rattle.std.specs.Option.{option_or}
 use mathlib.Core.List.{reverse_aux}
 use Rattle.flume_model.specs.Log.{Log, Opening, is_ticket}
@@ -19,22 +20,15 @@ module _ {T : Type 0} where
   pub in_hand_else : (shown : ℕ → Option T) (was : ℕ → Bool) (t : ℕ) (parked : Option ℕ)
       → is_ticket t parked ≡ false
       → in_hand shown (λ u. is_ticket u (Some t) || was u) parked ≡ in_hand shown was parked
-  in_hand_else shown was t None other = refl
-  in_hand_else shown was t (Some u) other =
-      let apart : eqb t u ≡ false = ne_eqb t u (λ same.
-      (let is_it = eq-eqb u t (sym same) in let none : ⊥ = cc in none)) in
-      rw apart refl
+  in_hand_else shown was t parked other = grind (arith, common_steps, nat_tests)
 
   -- the one that is filled was handed nothing
   pub in_hand_filled : (shown : ℕ → Option T) (was : ℕ → Bool) (t : ℕ) (parked : Option ℕ)
       → was t ≡ false → is_ticket t parked ≡ true
       → (in_hand shown (λ u. is_ticket u (Some t) || was u) parked ≡ as_list (shown t))
       × (in_hand shown was parked ≡ [])
-  in_hand_filled shown was t None empty is = absurd (let none : ⊥ = cc in none)
-  in_hand_filled shown was t (Some u) empty is =
-      let same : u ≡ t = eqb-true u t is in
-      let it = eq-eqb t t refl in
-      rw same (rw it refl, rw empty refl)
+  in_hand_filled shown was t parked empty is =
+      (grind (arith, common_steps, nat_tests), grind (arith, common_steps, nat_tests))
 
 module _ {T A : Type 0} where
   -- before a run came so far it was a run
