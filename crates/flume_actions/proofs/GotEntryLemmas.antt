@@ -1,7 +1,7 @@
 -- How many entries have a ticket after each change, and that a filled receiver held nothing before.
 use Rattle.std.proofs.Common.{◌≡◌, ℕ, ◌+◌, Bool, true, false, List, [], ◌∷◌, ◌++◌, Option, Some}
 use Rattle.std.proofs.Common.{None}
-use Rattle.std.proofs.Common.{refl, ap, sym, ◌∙◌, arith, if◌then◌else◌, eqb, eq-eqb, eqb-true}
+use Rattle.std.proofs.Common.{refl, ap, sym, ◌∙◌, arith, if◌then◌else◌, eqb, eqb-true}
 use Rattle.std.proofs.Common.{ne_eqb}
 use Rattle.std.proofs.lemmas.Bool.Decides.{nat_tests}
 use Rattle.std.proofs.lemmas.Grind.{common_steps}
@@ -9,7 +9,7 @@ use Rattle.flume_model.specs.declared.entry.Entry.{Entry}
 use Rattle.flume_model.specs.declared.entry.Mark.TheVariants.{Waiting}
 use Rattle.flume_model.specs.Log.{Change, Queues, Takes, Parks, Asks, Collects, Leaves}
 use Rattle.flume_model.specs.Log.{SenderLeaves}
-use Rattle.flume_model.specs.Log.{ReceiverLeaves, is_ticket}
+use Rattle.flume_model.specs.Log.{ReceiverLeaves}
 use Rattle.flume_model.specs.Entries.{entry_of, round, round_fills, without_ticket, all_woken}
 use Rattle.flume_model.specs.Entries.{is_filled}
 use Rattle.flume_model.specs.Entries.{held_by}
@@ -154,6 +154,5 @@ module _ {T : Type 0} where
       other by =
           let gone = fills_none_else u (without_ticket u c.entries)
           (left_out c.next_ticket u c.entries apart) in
-          let another : eqb t u ≡ false = sym (ap (is_ticket u) by) ∙ gone in
-          ne_eqb u t (λ same. (let is_it = eq-eqb t u (sym same) in let none : ⊥ = cc in none))
+          grind (arith, common_steps, nat_tests, gone)
   filled_was_empty c _ t e h apart is found = absurd (let none : ⊥ = cc in none)
