@@ -9,7 +9,7 @@ ghost use Rattle.flume_calls.specs.Polls.{AtMostOneStep};
 ghost use Rattle.flume_calls.specs.Singles.{after_set_capacity};
 ghost use Rattle.flume.specs.LockedPolls.{HasPolled};
 ghost use Rattle.flume.specs.LockedTurns.{HasDone, HasMade};
-ghost use Rattle.flume_actions.specs.Actions.{IsWhole};
+ghost use Rattle.flume_actions.specs.Actions.{IsPart, IsWhole};
 ghost use Rattle.flume_keeper.specs.Keeps.{Did, LogsOf};
 
 use crate::backoff::{Backoff, FIRST_PAUSES, LOCK_TRIES, UNBOUNDED, pause};
@@ -252,6 +252,13 @@ impl<T: Drop, R: Waits, A: Allocator + Copy> Shared<T, R, A> {
 }
 
 impl<T: Drop, R: Waits, A: Allocator + Copy, J: ChannelName> Shared<T, R, A, Traced<T, A, J>> {
+    pub(crate) fn confirm(&self, me: &mut ChannelParty<T, J, A>)
+        ensures party { me.new ≡ me.old }
+        ensures part { IsPart J.identity.capacity me.old.actions }
+    {
+        self.lock().confirm(me);
+    }
+
     pub(crate) fn settle(&self, me: &mut ChannelParty<T, J, A>) -> bool
         requires whole { me.old.parts ≡ J.identity.parts }
         ensures party { me.new ≡ me.old }

@@ -22,7 +22,7 @@ ghost use Rattle.flume_calls.specs.SendTurns.{after_try_send};
 ghost use Rattle.flume_deadline.specs.declared.Deadline.{Deadline};
 ghost use Rattle.flume_deadline.specs.Deadlines.{IsAfter};
 ghost use Rattle.flume_party.specs.Parties.{party_of};
-ghost use Rattle.flume_actions.specs.Actions.{IsWhole};
+ghost use Rattle.flume_actions.specs.Actions.{IsPart, IsWhole};
 ghost use Rattle.flume_actions.specs.Calls.{HasCalled, HasSent, HasReceived, HasStepped};
 ghost use Rattle.flume_actions.specs.Calls.{sent_by, got_by, drained_by};
 ghost use Rattle.flume.specs.CallSteps as answer;
@@ -138,6 +138,14 @@ impl<T: Drop, R: Waits, A: Allocator + Copy, J: ChannelName> Sender<T, R, A, Tra
         let deadline = Deadline::after(&self.shared().rt, timeout);
         self.send_until(me, message, deadline)
     }
+
+    /// As `TracedReceiver::confirm`.
+    pub fn confirm(&self, me: &mut ChannelParty<T, J, A>)
+        ensures party { me.new ≡ me.old }
+        ensures part { IsPart J.identity.capacity me.old.actions }
+    {
+        self.shared().confirm(me);
+    }
 }
 
 impl<T: Drop, R: Waits, A: Allocator + Copy, J: ChannelName> Receiver<T, R, A, Traced<T, A, J>> {
@@ -193,6 +201,16 @@ impl<T: Drop, R: Waits, A: Allocator + Copy, J: ChannelName> Receiver<T, R, A, T
         ensures made { HasStepped Drain after_drain me.old result me.new }
     {
         self.drain_as(me)
+    }
+
+    /// For any party, at any time. It changes nothing. Its clause says that the actions of `me`
+    /// stand, in their order, in the one history of this channel, and that each reply in that was
+    /// the abstract channel's.
+    pub fn confirm(&self, me: &mut ChannelParty<T, J, A>)
+        ensures party { me.new ≡ me.old }
+        ensures part { IsPart J.identity.capacity me.old.actions }
+    {
+        self.shared().confirm(me);
     }
 
     /// For whoever has all parts. It changes nothing, and answers whether no message is queued or

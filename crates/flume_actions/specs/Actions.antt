@@ -8,6 +8,7 @@ use Rattle.flume_model.specs.Log.{opens}
 use Rattle.flume_model.specs.Counts.{is_over}
 use Rattle.flume_model.specs.Line.{line}
 use Rattle.flume_model.specs.Replies.{IsRun}
+use Rattle.flume_party.specs.Interleavings.{Interleaving}
 
 -- a step with its reply; A is the allocator of the lists in replies
 abbrev pub Action : Type 0 → Type 0 → Type 0
@@ -43,3 +44,12 @@ module _ {T A : Type 0} where
     pub run : IsRun (opens capacity 1) (reverse history)
     -- if it is emptied, no message is queued or blocked, and none was dropped with both sides
     pub left : is_emptied ≡ true → (line (reverse history) ≡ []) × (is_over (reverse history) ≡ false)
+
+  -- These actions of a party stand, in their order, in all that was done to a channel, the oldest
+  -- first. It was opened with the capacity.
+  pub record IsPart (capacity : Option ℕ) (actions : List (Action T A)) : Type 0 where
+    pub history : List (Action T A)
+    pub others : List (Action T A)
+    pub among : Interleaving actions others history
+    -- each reply was the abstract channel's
+    pub run : IsRun (opens capacity 1) (reverse history)

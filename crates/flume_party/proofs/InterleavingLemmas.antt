@@ -38,6 +38,18 @@ module _ {X : Type 0} where
   interleaved_at x xs ys zs false true c either is rest = rw is (Right rest)
   interleaved_at x xs ys zs false false c either is rest = rw is rest
 
+  rest_at : (x : X) (here : Bool) (some all : List X) → (ys : List X) × Interleaving some ys all
+      → (ys : List X) × Interleaving (if here then x ∷ some else some) ys (x ∷ all)
+  rest_at x true some all rest = (rest.0, Left rest.1)
+  rest_at x false some all rest = (x ∷ rest.0, Right rest.1)
+
+  -- what is at some positions, and the rest, are the list
+  pub picked_rest : (k : ℕ) (ps : List ℕ) (xs : List X)
+      → (ys : List X) × Interleaving (picked_from k ps xs) ys xs
+  picked_rest k ps [] = ([], End)
+  picked_rest k ps (x ∷ xs) =
+      rest_at x (is_among k ps) (picked_from (suc k) ps xs) xs (picked_rest (suc k) ps xs)
+
   -- what is at two lists of positions is an interleaving of what is at each
   interleaved_from : (k : ℕ) (ps qs : List ℕ) (xs : List X) → AreApart (ps ++ qs)
       → Interleaving (picked_from k ps xs) (picked_from k qs xs) (picked_from k (ps ++ qs) xs)

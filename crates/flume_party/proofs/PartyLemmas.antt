@@ -16,6 +16,7 @@ use Rattle.flume_party.proofs.PickLemmas.{below_more, below_append, picked_none,
 use Rattle.flume_party.proofs.PickLemmas.{picked_more}
 use Rattle.flume_party.proofs.CountLemmas.{picked_length, all_picked}
 use Rattle.flume_party.proofs.InterleavingLemmas.{interleaved, interleaved_pass, interleaved_joined}
+use Rattle.flume_party.proofs.InterleavingLemmas.{picked_rest}
 
 prefix_length : {X : Type 0} (xs ys : List X) → IsPrefix xs ys → length xs ≤ length ys
 prefix_length xs ys p = omega (arith, sym (ap length p.1) ∙ length-append xs p.0)
@@ -41,6 +42,19 @@ module _ {E : Type 0} where
   actions_written may writes writes' seen seen' ps ps' w e one =
       ap actions_of (written_one may writes writes' seen seen' ps ps' w e one)
       ∙ actions_more writes w
+
+  -- the actions at some positions stand in the trace, in their order
+  pub has_part : (writes seen : List (List E)) (ps : List ℕ) (actions all : List E)
+      → actions ≡ actions_of (picked ps seen) → seen ≡ writes → actions_of writes ≡ all
+      → (others : List E) × Interleaving actions others all
+  has_part writes seen ps actions all are saw is =
+      let rest = picked_rest 0 ps seen in
+      let others : List E = actions_of rest.0 in
+      let whole = sym (ap actions_of saw ∙ is) in (
+        others,
+        subst (λ (z : List E × List E). Interleaving z.0 others z.1) (λ i. (sym are i, sym whole i))
+            (interleaved_joined (picked ps seen) rest.0 seen rest.1),
+      )
 
   module _ (is_owned : E → Bool) where
     -- a test that all pass leaves the list as it is

@@ -1,6 +1,7 @@
 //! One who acts, and knows its own actions.
 ghost use Rattle.std.specs.Prelude.{◌≡◌, ◌<◌, List, [], filter};
 ghost use Rattle.flume_party.specs.Owners.{AreOwned};
+ghost use Rattle.flume_party.specs.Interleavings.{Interleaving};
 ghost use Rattle.flume_party.specs.Parties.{party_of, without_parts, Recorded, Merged};
 
 use crate::records::{AllOwned, NoWrite, OwnedWrite, Ownership, Records};
@@ -63,15 +64,17 @@ impl<E, J: TraceName + Ledger, O: Ownership<E>> Party<E, J, O> {
         trace.book.add(&mut self.share, 1);
     }
 
-    /// Changes nothing: its clause says that whoever has all parts made all actions with an owner.
+    /// Changes nothing. Its clauses say: the party's actions stand in the trace, in their order; and
+    /// if it has all parts, they are all that have an owner.
     /// ```
     /// party.audit(&mut trace);
     /// ```
     pub fn audit(&mut self, trace: &mut SharedTrace<E, J, O>)
-        requires whole { self.old.parts ≡ J.parts }
         ensures trace { trace.new ≡ trace.old }
         ensures party { self.new ≡ self.old }
-        ensures all { self.old.actions ≡ filter O.is_owned trace.old }
+        ensures part { (others : List E) × Interleaving self.old.actions others trace.old }
+        ensures all { self.old.parts ≡ J.parts
+            → self.old.actions ≡ filter O.is_owned trace.old }
     {
         trace.trace.append::<(), NoWrite>(&mut self.claim, &());
         trace.book.audit(&mut self.share);
