@@ -4,5 +4,5 @@ use Rattle.party_tests.proofs.shared.Count.added_by_all.Goals as goal
 
 pub returns : goal.returns
 returns g c =
-    let all = c.audit.ensures.all ∙ filter_all c.self.inside.trace in
+    let all = c.audit.ensures.all c.requires.whole ∙ filter_all c.self.inside.trace in
     record { all = c.self.invariant ∙ ap length (sym all) }
