@@ -15,3 +15,5 @@ mod TracedLemmas
 mod TracedCallLemmas
 -- The arms of a list of sends, one for each pair so far.
 mod ArmListLemmas
+-- What a party did by a `next` of its iterator, as calls.
+mod PartyIteratorLemmas

@@ -27,7 +27,7 @@ use Rattle.flume.specs.PartySteps.{DidStep, Same, FirstSendOf, ParkSendOf, Again
 use Rattle.flume.specs.PartySteps.{FirstReceiveOf, ParkReceiveOf, AgainReceiveOf, ReceivesOf}
 
 -- a party, by its actions
-abbrev P : Type 0 → Type 0 → Type 0
+abbrev pub P : Type 0 → Type 0 → Type 0
 P T A = PartyState (Action T A)
 
 module _ {T A : Type 0} where

@@ -17,19 +17,26 @@ use Rattle.flume_core.specs.declared.error.RecvTimeoutError.{RecvTimeoutError}
 use Rattle.flume_core.specs.declared.error.RecvTimeoutError.TheVariants as timeout
 use Rattle.flume_core.specs.declared.error.NoMemory.{NoMemory}
 use Rattle.flume_calls.specs.ReceiveTurns.{after_try_recv}
+use Rattle.flume_keeper.specs.declared.no_trace.NoParty.{NoParty}
 use Rattle.flume.specs.CallSteps.{receive_as_timed, try_receive_as_turn}
 use Rattle.flume.specs.GateSteps.{Receives}
 use Rattle.flume.specs.LockedTurns.{HasMade}
 
--- what a contract sees of an iterator over received messages, whose calls no run uses up
-pub record IterValue : Type 0 where
+-- what a contract sees of a party's iterator over received messages, whose calls no run uses up
+pub record IterValue (P : Type 0) : Type 0 where
   pub channel : ℕ
   pub fault : Bool
   pub calls_left : ℕ
+  pub party : P
 
--- the iterator over a channel's messages as it begins
-abbrev pub new_iter : ℕ → IterValue
-new_iter channel = record { channel = channel; fault = false; calls_left = 2 ^ 64 - 1 }
+-- the party's iterator over a channel's messages as it begins
+abbrev pub new_iter_by : {P : Type 0} → P → ℕ → IterValue P
+new_iter_by party channel =
+    record { channel = channel; fault = false; calls_left = 2 ^ 64 - 1; party = party }
+
+-- the same of a channel without a trace
+abbrev pub new_iter : ℕ → IterValue NoParty
+new_iter = new_iter_by (record {})
 
 module _ {T : Type 0} where
   -- whether a receive was refused because memory ran out
@@ -45,38 +52,54 @@ module _ {T : Type 0} (A : Type 0) where
     pub item_is : item ≡ result_ok answer
     pub fault_is : fault ≡ is_refused answer
 
+  -- a `try_recv` was made, whose answer has this item
+  pub record HasTried (item : Option T) : Type 0 where
+    pub answer : Result T TryRecvError
+    pub made : HasMade {A = A} TryRecv after_try_recv (try_receive_as_turn answer)
+    pub had_memory : answer ≢ Err try_recv.NoMemory
+    pub item_is : item ≡ result_ok answer
+
   -- one `next` of an iterator that waits
-  pub record IsNext (old : IterValue) (item : Option T) (new : IterValue) : Type 0 where
+  pub record IsNext {P : Type 0} (old : IterValue P) (item : Option T) (new : IterValue P)
+      : Type 0 where
     pub channel : new.channel ≡ old.channel
     pub calls_left : old.calls_left ≡ new.calls_left + 1
     pub fault : new.fault ≡ true → item ≡ None
     pub received : HasReceived item new.fault
 
   -- one `next` of an iterator that doesn't wait: a `try_recv`
-  pub record IsTryNext (old : IterValue) (item : Option T) (new : IterValue) : Type 0 where
+  pub record IsTryNext {P : Type 0} (old : IterValue P) (item : Option T) (new : IterValue P)
+      : Type 0 where
     pub channel : new.channel ≡ old.channel
     pub calls_left : old.calls_left ≡ new.calls_left + 1
     pub no_fault : new.fault ≡ false
-    pub answer : Result T TryRecvError
-    pub made : HasMade {A = A} TryRecv after_try_recv (try_receive_as_turn answer)
-    pub had_memory : answer ≢ Err try_recv.NoMemory
-    pub item_is : item ≡ result_ok answer
+    pub tried : HasTried item
 
--- what a contract sees of an iterator that ends at a deadline
-pub record DeadlineIterValue : Type 0 where
+-- what a contract sees of a party's iterator that ends at a deadline
+pub record DeadlineIterValue (P : Type 0) : Type 0 where
   pub channel : ℕ
   pub deadline : Deadline
   pub end : Option RecvTimeoutError
   pub calls_left : ℕ
+  pub party : P
 
--- the iterator over a channel's messages up to a deadline as it begins
-abbrev pub new_deadline_iter : ℕ → Deadline → DeadlineIterValue
-new_deadline_iter channel deadline =
-    record { channel = channel; deadline = deadline; end = None; calls_left = 2 ^ 64 - 1 }
+-- the party's iterator over a channel's messages up to a deadline as it begins
+abbrev pub new_deadline_iter_by : {P : Type 0} → P → ℕ → Deadline → DeadlineIterValue P
+new_deadline_iter_by party channel deadline = record {
+  channel = channel;
+  deadline = deadline;
+  end = None;
+  calls_left = 2 ^ 64 - 1;
+  party = party;
+}
+
+-- the same of a channel without a trace
+abbrev pub new_deadline_iter : ℕ → Deadline → DeadlineIterValue NoParty
+new_deadline_iter = new_deadline_iter_by (record {})
 
 -- one `next` of it
-pub record IsNextInTime {T : Type 0} (A : Type 0) (old : DeadlineIterValue) (item : Option T)
-    (new : DeadlineIterValue) : Type 0 where
+pub record IsNextInTime {T P : Type 0} (A : Type 0) (old : DeadlineIterValue P) (item : Option T)
+    (new : DeadlineIterValue P) : Type 0 where
   pub channel : new.channel ≡ old.channel
   pub deadline : new.deadline ≡ old.deadline
   pub calls_left : old.calls_left ≡ new.calls_left + 1

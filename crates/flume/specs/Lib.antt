@@ -18,3 +18,4 @@ pub mod SelectionCalls
 pub mod Selections
 pub mod SendPolls
 pub mod PartySteps
+pub mod PartyIterators

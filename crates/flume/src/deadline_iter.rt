@@ -5,15 +5,19 @@ ghost use Rattle.flume_deadline.specs.declared.Deadline.{Deadline};
 ghost use Rattle.flume_deadline.specs.declared.Deadline.TheVariants.{At, Never};
 ghost use Rattle.flume_deadline.specs.Deadlines.{IsAfter, CanBeAhead};
 ghost use Rattle.flume.specs.GateSteps.{Receives};
-ghost use Rattle.flume.specs.Iterators.{new_deadline_iter, IsNextInTime};
+ghost use Rattle.flume.specs.Iterators.{new_deadline_iter, new_deadline_iter_by};
+ghost use Rattle.flume.specs.Iterators.{IsNextInTime};
+ghost use Rattle.flume.specs.PartyIterators.{ReceivesItemUntil, ReceivesUntil, IsTracedNextInTime};
+ghost use Rattle.flume.specs.PartySteps.{ReceivesOf};
 
 use crate::iterators::show;
 use crate::progress::Progress;
 use crate::receiver::Receiver;
 use crate::shared::Waits;
+use crate::traced::{ChannelName, ChannelParty, Traced};
 use flume_core::error::RecvTimeoutError;
 use flume_deadline::Deadline;
-use flume_keeper::NoParty;
+use flume_keeper::{Keeper, NoParty, NoTrace};
 use std::alloc::{Allocator, Global};
 use std::fmt;
 use std::marker::Model;
@@ -33,23 +37,30 @@ use std::time::{Duration, Instant};
 /// assert_eq!(rt; messages.ended(), Err(RecvTimeoutError::Timeout));
 /// ```
 #[derive(Drop)]
-pub struct DeadlineIter<'a, T, R: Waits, A: Allocator + Copy = Global> {
-    receiver: &'a Receiver<T, R, A>,
+pub struct DeadlineIter<'a, T, R, A = Global, K = NoTrace>
+where
+    R: Waits,
+    A: Allocator + Copy,
+    K: Keeper<T, A>,
+{
+    receiver: &'a Receiver<T, R, A, K>,
     deadline: Deadline,
     progress: Progress,
     end: Option<RecvTimeoutError>,
+    me: K::Party,
 }
 
-impl<'a, T, R: Waits, A: Allocator + Copy> Model for DeadlineIter<'a, T, R, A> {
+impl<'a, T, R: Waits, A: Allocator + Copy, K: Keeper<T, A>> Model for DeadlineIter<'a, T, R, A, K> {
     ghost use Rattle.flume.specs.Iterators.{DeadlineIterValue};
 
-    ghost Value = { DeadlineIterValue };
+    ghost Value = { DeadlineIterValue K.Party };
 
     ghost view = { λ it. record {
       channel = it.receiver.now;
       deadline = it.deadline;
       end = it.end;
       calls_left = it.progress.calls_left;
+      party = it.me;
     } };
 }
 
@@ -65,7 +76,7 @@ impl<T: Drop, R: Waits, A: Allocator + Copy> Receiver<T, R, A> {
     pub fn iter_deadline(&self, deadline: Instant) -> DeadlineIter<'_, T, R, A>
         ensures new { result ≡ new_deadline_iter self.now (At deadline) }
     {
-        DeadlineIter::new(self, Deadline::At(deadline))
+        DeadlineIter::new(self, NoParty, Deadline::At(deadline))
     }
 
     /// As `iter_deadline`, so long from now; as `iter`, if no time of the clock is that late.
@@ -73,19 +84,62 @@ impl<T: Drop, R: Waits, A: Allocator + Copy> Receiver<T, R, A> {
         ensures new { (deadline : Deadline) × IsAfter timeout deadline
             × (result ≡ new_deadline_iter self.now deadline) }
     {
-        DeadlineIter::new(self, Deadline::after(&self.shared().rt, timeout))
+        DeadlineIter::new(self, NoParty, Deadline::after(&self.shared().rt, timeout))
     }
 }
 
-impl<'a, T: Drop, R: Waits, A: Allocator + Copy> DeadlineIter<'a, T, R, A> {
-    fn new(receiver: &'a Receiver<T, R, A>, deadline: Deadline) -> Self
-        ensures new { result ≡ new_deadline_iter receiver.now deadline }
+impl<T: Drop, R: Waits, A: Allocator + Copy, J: ChannelName> Receiver<T, R, A, Traced<T, A, J>> {
+    /// As of a receiver without a trace. The iterator has the party.
+    pub fn iter_deadline(
+        &self,
+        me: ChannelParty<T, J, A>,
+        deadline: Instant,
+    ) -> DeadlineIter<'_, T, R, A, Traced<T, A, J>>
+        ensures new { result ≡ new_deadline_iter_by me self.now (At deadline) }
+    {
+        DeadlineIter::new(self, me, Deadline::At(deadline))
+    }
+
+    /// As of a receiver without a trace. The iterator has the party.
+    pub fn iter_timeout(
+        &self,
+        me: ChannelParty<T, J, A>,
+        timeout: Duration,
+    ) -> DeadlineIter<'_, T, R, A, Traced<T, A, J>>
+        ensures new { (deadline : Deadline) × IsAfter timeout deadline
+            × (result ≡ new_deadline_iter_by me self.now deadline) }
+    {
+        DeadlineIter::new(self, me, Deadline::after(&self.shared().rt, timeout))
+    }
+}
+
+impl<'a, T: Drop, R: Waits, A: Allocator + Copy, K: Keeper<T, A>> DeadlineIter<'a, T, R, A, K> {
+    fn new(receiver: &'a Receiver<T, R, A, K>, me: K::Party, deadline: Deadline) -> Self
+        ensures new { result ≡ new_deadline_iter_by me receiver.now deadline }
     {
         DeadlineIter {
             receiver,
             deadline,
             progress: Progress::new(),
             end: None,
+            me,
+        }
+    }
+
+    fn next_as(&mut self) -> Option<T>
+        ensures next { IsNextInTime A self.old result self.new }
+        ensures did { ReceivesItemUntil (ReceivesOf K.did) self.old result self.new }
+    {
+        self.progress.count(&self.receiver.shared().rt);
+        match receive(self.receiver, &mut self.me, self.deadline) {
+            Ok(message) => {
+                self.end = None;
+                Some(message)
+            }
+            Err(end) => {
+                self.end = Some(end);
+                None
+            }
         }
     }
 
@@ -117,19 +171,21 @@ impl<'a, T: Drop, R: Waits, A: Allocator + Copy> DeadlineIter<'a, T, R, A> {
     }
 }
 
-fn receive<T: Drop, R: Waits, A: Allocator + Copy>(
-    receiver: &Receiver<T, R, A>,
+fn receive<T: Drop, R: Waits, A: Allocator + Copy, K: Keeper<T, A>>(
+    receiver: &Receiver<T, R, A, K>,
+    me: &mut K::Party,
     deadline: Deadline,
 ) -> Result<T, RecvTimeoutError>
     ensures has_deadline { result ≡ Err RecvTimeoutError.Timeout → deadline ≢ Never }
     ensures ahead { result ≢ Err RecvTimeoutError.Timeout → CanBeAhead deadline }
     ensures made { result ≢ Err RecvTimeoutError.Timeout → Receives A deadline result }
+    ensures did { ReceivesUntil (ReceivesOf K.did) me.old me.new result }
 {
     let rt = &receiver.shared().rt;
     if deadline.is_reached(rt) {
         return Err(RecvTimeoutError::Timeout);
     }
-    receiver.recv_until(&mut NoParty, deadline)
+    receiver.recv_until(me, deadline)
 }
 
 impl<'a, T: Drop, R: Waits, A: Allocator + Copy> Iterator for DeadlineIter<'a, T, R, A> {
@@ -140,21 +196,41 @@ impl<'a, T: Drop, R: Waits, A: Allocator + Copy> Iterator for DeadlineIter<'a, T
     ghost remaining = { λ it. at_most it.calls_left };
 
     fn next(&mut self) -> Option<T> {
-        self.progress.count(&self.receiver.shared().rt);
-        match receive(self.receiver, self.deadline) {
-            Ok(message) => {
-                self.end = None;
-                Some(message)
-            }
-            Err(end) => {
-                self.end = Some(end);
-                None
-            }
-        }
+        self.next_as()
     }
 }
 
-impl<'a, T: Drop, R: Waits, A: Allocator + Copy> fmt::Debug for DeadlineIter<'a, T, R, A> {
+impl<'a, T: Drop, R: Waits, A: Allocator + Copy, J: ChannelName> Iterator
+    for DeadlineIter<'a, T, R, A, Traced<T, A, J>> {
+    type Item = T;
+
+    ghost next_gives = { IsTracedNextInTime };
+
+    ghost remaining = { λ it. at_most it.calls_left };
+
+    fn next(&mut self) -> Option<T> {
+        self.next_as()
+    }
+}
+
+impl<'a, T: Drop, R: Waits, A: Allocator + Copy, J: ChannelName> DeadlineIter<
+    'a,
+    T,
+    R,
+    A,
+    Traced<T, A, J>,
+> {
+    /// As of an `Iter`.
+    pub fn into_party(self) -> ChannelParty<T, J, A>
+        ensures party { result ≡ self.entry.party }
+    {
+        let Self { me, .. } = self;
+        me
+    }
+}
+
+impl<'a, T: Drop, R: Waits, A: Allocator + Copy, K: Keeper<T, A>> fmt::Debug
+    for DeadlineIter<'a, T, R, A, K> {
     fn fmt<W: fmt::Write>(&self, f: &mut fmt::Formatter<W>) -> fmt::Result {
         show(f, "DeadlineIter", self.receiver)
     }

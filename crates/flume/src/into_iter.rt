@@ -1,13 +1,16 @@
 //! The iterator that owns its receiver.
 ghost use Rattle.std.specs.Prelude.{◌≡◌, ◌↔◌, true, IsErr};
 ghost use Rattle.std.specs.Iterator.{at_most};
-ghost use Rattle.flume.specs.Iterators.{new_iter, IsNext};
+ghost use Rattle.flume.specs.Iterators.{new_iter, new_iter_by, IsNext};
+ghost use Rattle.flume.specs.PartyIterators.{IsTracedNext};
 
 use crate::iterators::show;
 use crate::progress::Progress;
 use crate::receiver::Receiver;
 use crate::shared::Waits;
+use crate::traced::{ChannelName, ChannelParty, Traced};
 use flume_core::error::NoMemory;
+use flume_keeper::{Keeper, NoParty, NoTrace};
 use std::alloc::{Allocator, Global};
 use std::fmt;
 use std::marker::Model;
@@ -24,24 +27,41 @@ use std::marker::Model;
 /// assert_eq!(rt; last, 42);
 /// ```
 #[derive(Drop)]
-pub struct IntoIter<T, R: Waits, A: Allocator + Copy = Global> {
-    receiver: Receiver<T, R, A>,
+pub struct IntoIter<T, R, A = Global, K = NoTrace>
+where
+    R: Waits,
+    A: Allocator + Copy,
+    K: Keeper<T, A>,
+{
+    receiver: Receiver<T, R, A, K>,
     progress: Progress,
+    me: K::Party,
 }
 
-impl<T, R: Waits, A: Allocator + Copy> Model for IntoIter<T, R, A> {
+impl<T, R: Waits, A: Allocator + Copy, K: Keeper<T, A>> Model for IntoIter<T, R, A, K> {
     ghost use Rattle.flume.specs.Iterators.{IterValue};
 
-    ghost Value = { IterValue };
+    ghost Value = { IterValue K.Party };
 
     ghost view = { λ it. record {
       channel = it.receiver;
       fault = it.progress.fault;
       calls_left = it.progress.calls_left;
+      party = it.me;
     } };
 }
 
-impl<T: Drop, R: Waits, A: Allocator + Copy> IntoIter<T, R, A> {
+impl<T: Drop, R: Waits, A: Allocator + Copy, K: Keeper<T, A>> IntoIter<T, R, A, K> {
+    fn new(receiver: Receiver<T, R, A, K>, me: K::Party) -> Self
+        ensures new { result ≡ new_iter_by me receiver }
+    {
+        IntoIter {
+            receiver,
+            progress: Progress::new(),
+            me,
+        }
+    }
+
     /// As `Iter::fault`.
     pub fn fault(&self) -> bool
         ensures fault { result ≡ self.now.fault }
@@ -69,11 +89,38 @@ impl<T: Drop, R: Waits, A: Allocator + Copy> Iterator for IntoIter<T, R, A> {
     ghost remaining = { λ it. at_most it.calls_left };
 
     fn next(&mut self) -> Option<T> {
-        self.progress.receive(&self.receiver)
+        self.progress.receive(&self.receiver, &mut self.me)
     }
 }
 
-impl<T: Drop, R: Waits, A: Allocator + Copy> fmt::Debug for IntoIter<T, R, A> {
+impl<T: Drop, R: Waits, A: Allocator + Copy, J: ChannelName> Iterator
+    for IntoIter<T, R, A, Traced<T, A, J>> {
+    type Item = T;
+
+    ghost next_gives = { IsTracedNext };
+
+    ghost remaining = { λ it. at_most it.calls_left };
+
+    fn next(&mut self) -> Option<T> {
+        self.progress.receive(&self.receiver, &mut self.me)
+    }
+}
+
+impl<T: Drop, R: Waits, A: Allocator + Copy, J: ChannelName> IntoIter<T, R, A, Traced<T, A, J>> {
+    /// As of an `Iter`. The receiver is dropped.
+    pub fn into_party(self) -> ChannelParty<T, J, A>
+        ensures party { result ≡ self.party }
+    {
+        let Self {
+            receiver: _,
+            progress: _,
+            me,
+        } = self;
+        me
+    }
+}
+
+impl<T: Drop, R: Waits, A: Allocator + Copy, K: Keeper<T, A>> fmt::Debug for IntoIter<T, R, A, K> {
     fn fmt<W: fmt::Write>(&self, f: &mut fmt::Formatter<W>) -> fmt::Result {
         show(f, "IntoIter", &self.receiver)
     }
@@ -87,9 +134,15 @@ impl<T: Drop, R: Waits, A: Allocator + Copy> IntoIterator for Receiver<T, R, A> 
     ghost into_iter_gives = { λ receiver it. it ≡ new_iter receiver };
 
     fn into_iter(self) -> IntoIter<T, R, A> {
-        IntoIter {
-            receiver: self,
-            progress: Progress::new(),
-        }
+        IntoIter::new(self, NoParty)
+    }
+}
+
+impl<T: Drop, R: Waits, A: Allocator + Copy, J: ChannelName> Receiver<T, R, A, Traced<T, A, J>> {
+    /// As `iter`, with the receiver in it. `IntoIterator` has no place for a party.
+    pub fn into_iter(self, me: ChannelParty<T, J, A>) -> IntoIter<T, R, A, Traced<T, A, J>>
+        ensures new { result ≡ new_iter_by me self }
+    {
+        IntoIter::new(self, me)
     }
 }

@@ -1,12 +1,15 @@
 //! Iterators that borrow their receiver.
 ghost use Rattle.std.specs.Prelude.{◌≡◌, ◌↔◌, true, false, IsErr};
 ghost use Rattle.std.specs.Iterator.{at_most};
-ghost use Rattle.flume.specs.Iterators.{new_iter, IsNext, IsTryNext};
+ghost use Rattle.flume.specs.Iterators.{new_iter, new_iter_by, IsNext, IsTryNext};
+ghost use Rattle.flume.specs.PartyIterators.{IsTracedNext, IsTracedTryNext};
 
 use crate::progress::Progress;
 use crate::receiver::Receiver;
 use crate::shared::Waits;
+use crate::traced::{ChannelName, ChannelParty, Traced};
 use flume_core::error::NoMemory;
+use flume_keeper::{Keeper, NoParty, NoTrace};
 use std::alloc::{Allocator, Global};
 use std::fmt;
 use std::marker::Model;
@@ -24,30 +27,38 @@ use std::marker::Model;
 /// assert_eq!(rt; last, 42);
 /// ```
 #[derive(Drop)]
-pub struct Iter<'a, T, R: Waits, A: Allocator + Copy = Global> {
-    receiver: &'a Receiver<T, R, A>,
+pub struct Iter<'a, T, R, A = Global, K = NoTrace>
+where
+    R: Waits,
+    A: Allocator + Copy,
+    K: Keeper<T, A>,
+{
+    receiver: &'a Receiver<T, R, A, K>,
     progress: Progress,
+    me: K::Party,
 }
 
-impl<'a, T, R: Waits, A: Allocator + Copy> Model for Iter<'a, T, R, A> {
+impl<'a, T, R: Waits, A: Allocator + Copy, K: Keeper<T, A>> Model for Iter<'a, T, R, A, K> {
     ghost use Rattle.flume.specs.Iterators.{IterValue};
 
-    ghost Value = { IterValue };
+    ghost Value = { IterValue K.Party };
 
     ghost view = { λ it. record {
       channel = it.receiver.now;
       fault = it.progress.fault;
       calls_left = it.progress.calls_left;
+      party = it.me;
     } };
 }
 
-impl<'a, T: Drop, R: Waits, A: Allocator + Copy> Iter<'a, T, R, A> {
-    pub(crate) fn new(receiver: &'a Receiver<T, R, A>) -> Self
-        ensures new { result ≡ new_iter receiver.now }
+impl<'a, T: Drop, R: Waits, A: Allocator + Copy, K: Keeper<T, A>> Iter<'a, T, R, A, K> {
+    pub(crate) fn new(receiver: &'a Receiver<T, R, A, K>, me: K::Party) -> Self
+        ensures new { result ≡ new_iter_by me receiver.now }
     {
         Iter {
             receiver,
             progress: Progress::new(),
+            me,
         }
     }
 
@@ -96,11 +107,45 @@ impl<'a, T: Drop, R: Waits, A: Allocator + Copy> Iterator for Iter<'a, T, R, A> 
     ghost remaining = { λ it. at_most it.calls_left };
 
     fn next(&mut self) -> Option<T> {
-        self.progress.receive(self.receiver)
+        self.progress.receive(self.receiver, &mut self.me)
     }
 }
 
-impl<'a, T: Drop, R: Waits, A: Allocator + Copy> fmt::Debug for Iter<'a, T, R, A> {
+impl<'a, T: Drop, R: Waits, A: Allocator + Copy, J: ChannelName> Iterator
+    for Iter<'a, T, R, A, Traced<T, A, J>> {
+    type Item = T;
+
+    ghost next_gives = { IsTracedNext };
+
+    ghost remaining = { λ it. at_most it.calls_left };
+
+    fn next(&mut self) -> Option<T> {
+        self.progress.receive(self.receiver, &mut self.me)
+    }
+}
+
+impl<'a, T: Drop, R: Waits, A: Allocator + Copy, J: ChannelName> Iter<
+    'a,
+    T,
+    R,
+    A,
+    Traced<T, A, J>,
+> {
+    /// The party, with what it received.
+    pub fn into_party(self) -> ChannelParty<T, J, A>
+        ensures party { result ≡ self.entry.party }
+    {
+        let Self {
+            receiver: _,
+            progress: _,
+            me,
+        } = self;
+        me
+    }
+}
+
+impl<'a, T: Drop, R: Waits, A: Allocator + Copy, K: Keeper<T, A>> fmt::Debug
+    for Iter<'a, T, R, A, K> {
     fn fmt<W: fmt::Write>(&self, f: &mut fmt::Formatter<W>) -> fmt::Result {
         show(f, "Iter", self.receiver)
     }
@@ -114,37 +159,61 @@ impl<'a, T: Drop, R: Waits, A: Allocator + Copy> IntoIterator for &'a Receiver<T
     ghost into_iter_gives = { λ receiver it. it ≡ new_iter receiver.now };
 
     fn into_iter(self) -> Iter<'a, T, R, A> {
-        Iter::new(self)
+        Iter::new(self, NoParty)
+    }
+}
+
+impl<T: Drop, R: Waits, A: Allocator + Copy, J: ChannelName> Receiver<T, R, A, Traced<T, A, J>> {
+    /// As of a receiver without a trace. The iterator has the party; `into_party` gives it back.
+    pub fn iter(&self, me: ChannelParty<T, J, A>) -> Iter<'_, T, R, A, Traced<T, A, J>>
+        ensures new { result ≡ new_iter_by me self.now }
+    {
+        Iter::new(self, me)
+    }
+
+    /// As of a receiver without a trace. The iterator has the party.
+    pub fn try_iter(&self, me: ChannelParty<T, J, A>) -> TryIter<'_, T, R, A, Traced<T, A, J>>
+        ensures new { result ≡ new_iter_by me self.now }
+    {
+        TryIter::new(self, me)
     }
 }
 
 /// The messages of a receiver, as `try_recv` gives them. After a `None` more may come.
 #[derive(Drop)]
-pub struct TryIter<'a, T, R: Waits, A: Allocator + Copy = Global> {
-    receiver: &'a Receiver<T, R, A>,
+pub struct TryIter<'a, T, R, A = Global, K = NoTrace>
+where
+    R: Waits,
+    A: Allocator + Copy,
+    K: Keeper<T, A>,
+{
+    receiver: &'a Receiver<T, R, A, K>,
     progress: Progress,
+    me: K::Party,
 }
 
-impl<'a, T, R: Waits, A: Allocator + Copy> Model for TryIter<'a, T, R, A> {
+impl<'a, T, R: Waits, A: Allocator + Copy, K: Keeper<T, A>> Model for TryIter<'a, T, R, A, K> {
     ghost use Rattle.std.specs.Prelude.{false};
     ghost use Rattle.flume.specs.Iterators.{IterValue};
 
-    ghost Value = { IterValue };
+    ghost Value = { IterValue K.Party };
 
     ghost view = { λ it. record {
       channel = it.receiver.now;
       fault = false;
       calls_left = it.progress.calls_left;
+      party = it.me;
     } };
 }
 
-impl<'a, T: Drop, R: Waits, A: Allocator + Copy> TryIter<'a, T, R, A> {
-    pub(crate) fn new(receiver: &'a Receiver<T, R, A>) -> Self
-        ensures new { result ≡ new_iter receiver.now }
+impl<'a, T: Drop, R: Waits, A: Allocator + Copy, K: Keeper<T, A>> TryIter<'a, T, R, A, K> {
+    pub(crate) fn new(receiver: &'a Receiver<T, R, A, K>, me: K::Party) -> Self
+        ensures new { result ≡ new_iter_by me receiver.now }
     {
         TryIter {
             receiver,
             progress: Progress::new(),
+            me,
         }
     }
 
@@ -164,12 +233,45 @@ impl<'a, T: Drop, R: Waits, A: Allocator + Copy> Iterator for TryIter<'a, T, R, 
     ghost remaining = { λ it. at_most it.calls_left };
 
     fn next(&mut self) -> Option<T> {
-        self.progress.count(&self.receiver.shared().rt);
-        self.receiver.try_recv().ok()
+        self.progress.try_receive(self.receiver, &mut self.me)
     }
 }
 
-impl<'a, T: Drop, R: Waits, A: Allocator + Copy> fmt::Debug for TryIter<'a, T, R, A> {
+impl<'a, T: Drop, R: Waits, A: Allocator + Copy, J: ChannelName> Iterator
+    for TryIter<'a, T, R, A, Traced<T, A, J>> {
+    type Item = T;
+
+    ghost next_gives = { IsTracedTryNext };
+
+    ghost remaining = { λ it. at_most it.calls_left };
+
+    fn next(&mut self) -> Option<T> {
+        self.progress.try_receive(self.receiver, &mut self.me)
+    }
+}
+
+impl<'a, T: Drop, R: Waits, A: Allocator + Copy, J: ChannelName> TryIter<
+    'a,
+    T,
+    R,
+    A,
+    Traced<T, A, J>,
+> {
+    /// As of an `Iter`.
+    pub fn into_party(self) -> ChannelParty<T, J, A>
+        ensures party { result ≡ self.entry.party }
+    {
+        let Self {
+            receiver: _,
+            progress: _,
+            me,
+        } = self;
+        me
+    }
+}
+
+impl<'a, T: Drop, R: Waits, A: Allocator + Copy, K: Keeper<T, A>> fmt::Debug
+    for TryIter<'a, T, R, A, K> {
     fn fmt<W: fmt::Write>(&self, f: &mut fmt::Formatter<W>) -> fmt::Result {
         show(f, "TryIter", self.receiver)
     }

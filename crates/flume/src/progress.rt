@@ -1,11 +1,13 @@
 //! How far an iterator over received messages has come.
 ghost use Rattle.std.specs.Prelude.{◌≡◌, ◌+◌, ◌-◌, ◌^◌, true, false, None};
 ghost use Rattle.std.specs.Result.{result_ok};
-ghost use Rattle.flume.specs.Iterators.{HasReceived, is_refused};
+ghost use Rattle.flume.specs.Iterators.{is_refused};
+ghost use Rattle.flume.specs.PartyIterators.{ReceivesItem, TriesItem};
 
 use crate::receiver::Receiver;
 use crate::shared::Waits;
 use flume_core::error::RecvError;
+use flume_keeper::Keeper;
 use std::alloc::Allocator;
 use std::sync::Wait;
 
@@ -39,16 +41,29 @@ impl Progress {
         self.calls_left -= 1;
     }
 
-    pub(crate) fn receive<T: Drop, R: Waits, A: Allocator + Copy>(
+    pub(crate) fn receive<T: Drop, R: Waits, A: Allocator + Copy, K: Keeper<T, A>>(
         &mut self,
-        receiver: &Receiver<T, R, A>,
+        receiver: &Receiver<T, R, A, K>,
+        me: &mut K::Party,
     ) -> Option<T>
         ensures calls_left { self.old.calls_left ≡ self.new.calls_left + 1 }
         ensures fault { self.new.fault ≡ true → result ≡ None }
-        ensures received { HasReceived A result self.new.fault }
+        ensures received { ReceivesItem K.did me.old result self.new.fault me.new }
     {
         self.count(&receiver.shared().rt);
-        self.item(receiver.recv())
+        self.item(receiver.recv_as(me))
+    }
+
+    pub(crate) fn try_receive<T: Drop, R: Waits, A: Allocator + Copy, K: Keeper<T, A>>(
+        &mut self,
+        receiver: &Receiver<T, R, A, K>,
+        me: &mut K::Party,
+    ) -> Option<T>
+        ensures calls_left { self.old.calls_left ≡ self.new.calls_left + 1 }
+        ensures tried { TriesItem K.did me.old result me.new }
+    {
+        self.count(&receiver.shared().rt);
+        receiver.try_recv_as(me).ok()
     }
 
     fn item<T: Drop>(&mut self, answer: Result<T, RecvError>) -> Option<T>

@@ -106,7 +106,7 @@ impl<T: Drop, R: Waits, A: Allocator + Copy> Receiver<T, R, A> {
     pub fn iter(&self) -> Iter<'_, T, R, A>
         ensures new { result ≡ new_iter self.now }
     {
-        Iter::new(self)
+        Iter::new(self, NoParty)
     }
 
     /// The messages that are there, one after the other.
@@ -122,7 +122,7 @@ impl<T: Drop, R: Waits, A: Allocator + Copy> Receiver<T, R, A> {
     pub fn try_iter(&self) -> TryIter<'_, T, R, A>
         ensures new { result ≡ new_iter self.now }
     {
-        TryIter::new(self)
+        TryIter::new(self, NoParty)
     }
 
     /// Takes all queued messages in order; then lets blocked sends in. `NoMemory`: none for a list.

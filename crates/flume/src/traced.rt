@@ -35,6 +35,7 @@ use crate::opening;
 use crate::receiver::Receiver;
 use crate::sender::Sender;
 use crate::shared::Waits;
+use crate::weak::WeakSender;
 use flume_core::error::{
     NoMemory, RecvError, RecvTimeoutError, SendError, SendTimeoutError, TryRecvError, TrySendError,
 };
@@ -48,6 +49,9 @@ pub type TracedSender<T, R, J, A = Global> = Sender<T, R, A, Traced<T, A, J>>;
 
 /// A receiver of a channel that keeps a trace.
 pub type TracedReceiver<T, R, J, A = Global> = Receiver<T, R, A, Traced<T, A, J>>;
+
+/// A weak sender of a channel that keeps a trace.
+pub type TracedWeakSender<T, R, J, A = Global> = WeakSender<T, R, A, Traced<T, A, J>>;
 
 /// The ends of a channel that keeps a trace, and the party with all parts.
 pub type TracedEnds<T, R, J, A = Global> = (

@@ -1,4 +1,5 @@
 -- A receive without a deadline is never late, and a receive answered all that isn't late.
+use Rattle.flume.specs.PartyIterators.{TooLate, Received}
 use Rattle.flume.proofs.InTimeLemmas.{receive_in_time}
 use Rattle.flume.proofs.deadline_iter.receive.Goals as goal
 
@@ -7,3 +8,6 @@ returns-clause-has_deadline g c late never = receive_in_time c.recv_until.ensure
 
 pub returns-clause-made : goal.returns-clause-made
 returns-clause-made g c _ = c.recv_until.ensures.made
+
+pub returns-clause-did : goal.returns-clause-did
+returns-clause-did g c = Received c.recv_until.ensures.did
