@@ -61,6 +61,7 @@ impl<T: Drop, S: Drop, A: Allocator + Copy> Turn<T, S, A> for EndStep {
 
     ghost answers = { λ turn. PossibleReply (end_step turn) };
 
+    #[inline(always)]
     fn apply(self, chan: &mut Chan<T, S, A>) -> Reply<T, A> {
         match self {
             EndStep::CloneSender => chan.clone_sender(),
