@@ -1,3 +1,4 @@
+mod FirstTurnLemmas
 mod InTimeLemmas
 mod ManyReceiveLemmas
 mod ManyReceiveStepLemmas
@@ -13,6 +14,8 @@ mod StepLemmas
 mod TracedLemmas
 -- What a call of a party sent and got.
 mod TracedCallLemmas
+-- What a party's send of many messages sent.
+mod TracedSendLemmas
 -- The arms of a list of sends, one for each pair so far.
 mod ArmListLemmas
 -- What a party did by a `next` of its iterator, as calls.

@@ -4,10 +4,13 @@ use Rattle.std.proofs.Common.{◌∙◌, ap, subst, inl, inr, append_assoc}
 use Rattle.std.proofs.lemmas.List.{append-nil}
 use Rattle.flume_core.specs.declared.error.SendError.{SendError}
 use Rattle.flume_core.specs.declared.error.SendError.TheVariants.{Disconnected, NoMemory}
+use Rattle.flume_core.specs.declared.error.SendTimeoutError.{SendTimeoutError}
+use Rattle.flume_core.specs.declared.error.SendTimeoutError.TheVariants as timed
 use Rattle.flume_calls.specs.ManySends.{IsRest}
 use Rattle.flume_calls.specs.declared.polled.send.PolledSend.{PolledSend}
 use Rattle.flume_calls.specs.declared.polled.send.PolledSend.TheVariants.{Unsent, Parked, Finished}
 use Rattle.flume.specs.ManySendCalls.{IsRestAfterWait, IsEndOf, LeavesList, PollLeaves}
+use Rattle.flume.specs.ManySendSteps.{error_list}
 use Rattle.flume.proofs.SendPollLemmas.{Answer, back_of}
 
 module _ {T : Type 0} where
@@ -26,11 +29,11 @@ module _ {T : Type 0} where
   }
 
   -- what was sent before the last ones
-  pub last_of_rest : (all left : List T) → IsRest all left → IsEndOf all left
+  last_of_rest : (all left : List T) → IsRest all left → IsEndOf all left
   last_of_rest all left rest = (rest.sent, rest.messages_are)
 
   -- behind the first of the last ones
-  pub behind_first : (all now behind : List T) (first : T) → IsEndOf all now → now ≡ first ∷ behind → IsEndOf all behind
+  behind_first : (all now behind : List T) (first : T) → IsEndOf all now → now ≡ first ∷ behind → IsEndOf all behind
   behind_first all now behind first last is = (last.0 ++ first ∷ [], append_sent all (first ∷ []) now last behind is)
 
   -- what is left if no message waited
@@ -44,16 +47,44 @@ module _ {T : Type 0} where
     messages_are = rest.messages_are ∙ ap (λ list. rest.sent ++ list) rest.left_is;
   }
 
-  -- what is left of the last ones after one of them waited is left of all
-  pub waited_of_all : (all now left : List T) → IsEndOf all now → IsRestAfterWait now left → IsRestAfterWait all left
-  waited_of_all all now left last rest = record {
-    sent = last.0 ++ rest.sent;
-    first = rest.first;
-    back = rest.back;
-    behind = rest.behind;
-    left_is = rest.left_is;
-    messages_are = append_sent all rest.sent now last (rest.first ∷ rest.behind) rest.messages_are;
-  }
+  -- a batch of the last ones left some, and the first of those was sent by itself: those behind it are the last ones
+  pub behind_sent : (all now left behind : List T) (first : T) → IsEndOf all now → IsRest now left → left ≡ first ∷ behind → IsEndOf all behind
+  behind_sent all now left behind first last rest is =
+      behind_first all left behind first (last_of_rest all left (rest_of_all all now left last rest)) is
+
+  -- what an error of its send leaves
+  abbrev LeftBy : List T → SendTimeoutError (List T) → Type 0
+  LeftBy all (timed.Timeout left) = IsRestAfterWait all left
+  LeftBy all (timed.Disconnected left) = IsRestAfterWait all left
+  LeftBy all (timed.NoMemory left) = IsRest all left
+
+  -- what came back, and those behind it
+  pub left_by_first : (all now left behind : List T) (first : T) (ended : SendTimeoutError T) (error : SendTimeoutError (List T))
+      → IsEndOf all now → IsRest now left → left ≡ first ∷ behind → ((back : T) → ended ≡ timed.NoMemory back → back ≡ first)
+      → error ≡ error_list (λ back. back ∷ behind) ended → LeftBy all error
+  left_by_first all now left behind first ended error last rest is came same = subst (LeftBy all) (sym same) (go ended came)
+    where
+      sent : List T
+      sent = last.0 ++ rest.sent
+
+      messages_are : all ≡ sent ++ first ∷ behind
+      messages_are = append_sent all rest.sent now last (first ∷ behind) (rest.messages_are ∙ ap (λ list. rest.sent ++ list) is)
+
+      go : (ended : SendTimeoutError T) → ((back : T) → ended ≡ timed.NoMemory back → back ≡ first)
+          → LeftBy all (error_list (λ back. back ∷ behind) ended)
+      go (timed.Timeout back) came =
+          record { sent = sent; first = first; back = back; behind = behind; left_is = refl; messages_are = messages_are }
+      go (timed.Disconnected back) came =
+          record { sent = sent; first = first; back = back; behind = behind; left_is = refl; messages_are = messages_are }
+      go (timed.NoMemory back) came = subst (λ m. IsRest all (m ∷ behind)) (sym (came back refl))
+          (record { sent = sent; first = first; behind = behind; left_is = refl; messages_are = messages_are })
+
+  -- its send was too late, if the error says so
+  pub late_first : (left behind : List T) (ended : SendTimeoutError T) → timed.Timeout left ≡ error_list (λ back. back ∷ behind) ended
+      → (back : T) × (ended ≡ timed.Timeout back)
+  late_first left behind (timed.Timeout back) is = (back, refl)
+  late_first left behind (timed.Disconnected back) is = absurd (let none : ⊥ = cc in none)
+  late_first left behind (timed.NoMemory back) is = absurd (let none : ⊥ = cc in none)
 
   -- what a poll of the first of some messages leaves: if an error comes back, it has that message
   pub first_poll_leaves : (messages rest behind : List T) (first : T) (answer : Option (Result (Unit {0}) (SendError T)))

@@ -1,5 +1,5 @@
 -- The steps of a send of many: a batch under the lock, and the send of one of its messages.
-use Rattle.std.proofs.Common.{◌≡◌, Result, Ok, Err, List, ◌∷◌, refl, subst, sym}
+use Rattle.std.proofs.Common.{◌≡◌, Result, Ok, Err, List, ◌∷◌, refl, subst}
 use Rattle.std.specs.declared.collections.VecDeque.{VecDeque}
 use Rattle.std.specs.VecDeque.{deque_items}
 use Rattle.flume_model.specs.declared.step.Step.{Step}
@@ -14,13 +14,15 @@ use Rattle.flume_core.specs.declared.error.TrySendError.{TrySendError}
 use Rattle.flume_core.specs.declared.error.TrySendError.TheVariants.{Full, Disconnected, NoMemory}
 use Rattle.flume_core.specs.declared.error.SendTimeoutError.{SendTimeoutError}
 use Rattle.flume_calls.specs.declared.calls.send.SendNext.TheVariants.{NeedSignal}
-use Rattle.flume_calls.specs.Batches.{IsBatch, log_after}
-use Rattle.flume_calls.specs.ManySends.{SendsMany, NoneLeft, TakenIn as MoreTakenIn, IsFull, IsClosed, IsRefused, IsRest, LeavesRest}
-use Rattle.flume_calls.specs.SendTurns.{after_try_send}
 use Rattle.flume_deadline.specs.declared.Deadline.{Deadline}
-use Rattle.flume.specs.GateSteps.{Sends}
+use Rattle.flume_calls.specs.Batches.{IsBatch, log_after}
+use Rattle.flume_calls.specs.ManySends.{SendsMany, NoneLeft, TakenIn, IsFull, IsClosed, IsRefused, IsRest, LeavesRest}
+use Rattle.flume_calls.specs.SendTurns.{after_try_send}
+use Rattle.flume_actions.specs.Actions.{Action}
+use Rattle.flume_keeper.specs.Keeps.{Did}
 use Rattle.flume.specs.LockedTurns.{HasDone, HasMade}
-use Rattle.flume.specs.ManySendSteps.{SendsBatch, SendsFirst, TakenIn, ComesBack, try_result_list, error_list}
+use Rattle.flume.specs.ManySendSteps.{SendsBatch, BatchOf, SendsManyUpTo, SendsManyOf, try_result_list}
+use Rattle.flume.specs.ManySendSteps as many
 use Rattle.flume.proofs.ManyReceiveStepLemmas.{steps_run}
 
 module _ {T S A : Type 0} where
@@ -48,6 +50,15 @@ module _ {T S A : Type 0} where
   batch_made {answer = answer} done same is =
       subst (λ list. SendsBatch A list answer) same (batch_at (done.opening, done.log, done.represents) done.turn.0 is)
 
+module _ {P T S A : Type 0} {did : P → List (Action T A) → P → Type 0} where
+  -- a batch under the lock is one of some channel, and the party's
+  pub batch_done : {messages : List T} {outcome : State T S → State T S → Result (Unit {0}) (TrySendError (VecDeque T A)) → Type 0}
+      {batch : Result (Unit {0}) (TrySendError (VecDeque T A))} {answer : Result (Unit {0}) (TrySendError (List T))} {old new : P}
+      → HasDone A (λ old new answer. IsBatch {A = A} (SendsMany messages) old new answer × outcome old new answer) batch
+      → Did did (SendsMany messages) old batch new → answer ≡ try_result_list deque_items batch
+      → SendsBatch A messages answer × BatchOf did old messages new answer
+  batch_done done turn is = (batch_made done refl is, record { batch = _; turn = turn; answer_is = is })
+
 module _ {T A : Type 0} where
   -- the last step of a batch that found the channel full offered the first message of those that it left
   full_offer : (opening : Opening) (log : Log T A) (messages : List T) (made : List (Step T × Reply T A))
@@ -55,7 +66,7 @@ module _ {T A : Type 0} where
       → SendsMany messages made batch → batch ≡ Err (Full left) → left.items ≡ first ∷ behind → IsRun opening (log_after log made)
       → HasMade {A = A} (TrySend first) after_try_send (NeedSignal first)
   full_offer opening log messages made batch left first behind NoneLeft over is run = absurd (let none : ⊥ = cc in none)
-  full_offer opening log messages made batch left first behind (MoreTakenIn {message = message} {rest = rest} {made = more} filled others)
+  full_offer opening log messages made batch left first behind (TakenIn {message = message} {rest = rest} {made = more} filled others)
       over is run =
       full_offer opening ((TrySend message, reply.Sent filled) ∷ log) rest more batch left first behind others over is run
   full_offer opening log messages made batch left first behind (IsFull {message = message} same) over is run =
@@ -99,20 +110,13 @@ module _ {T A : Type 0} where
       go (Err (Disconnected left)) rest = rest
       go (Err (NoMemory left)) rest = rest
 
-module _ {T A : Type 0} where
-  -- the first of the messages was taken in
-  pub first_taken : {deadline : Deadline} {messages : List T} {first : T} {behind : List T} {ended : Result (Unit {0}) (SendTimeoutError T)}
-      {sent : Unit {0}} → Sends A deadline first ended → messages ≡ first ∷ behind → ended ≡ Ok sent
-      → SendsFirst A deadline messages (Ok behind)
-  first_taken {deadline = deadline} {first = first} {behind = behind} sends is over =
-      subst (λ list. SendsFirst A deadline list (Ok behind)) (sym is) (TakenIn (subst (λ ended. Sends A deadline first ended) over sends))
-
-  -- its send ended with an error, which has what came back and those behind
-  pub first_back : {deadline : Deadline} {messages : List T} {first : T} {behind : List T} {ended : Result (Unit {0}) (SendTimeoutError T)}
-      {error : SendTimeoutError T} {all : SendTimeoutError (List T)} → Sends A deadline first ended → messages ≡ first ∷ behind
-      → ended ≡ Err error
-      → error_list (λ back. back ∷ behind) error ≡ all → SendsFirst A deadline messages (Err all)
-  first_back {deadline = deadline} {first = first} {behind = behind} {all = all} sends is over same =
-      subst (λ list. SendsFirst A deadline list (Err all)) (sym is)
-      (subst (λ error. SendsFirst A deadline (first ∷ behind) (Err error)) same
-      (ComesBack (subst (λ ended. Sends A deadline first ended) over sends)))
+module _ {P T A : Type 0} {did : P → List (Action T A) → P → Type 0} {deadline : Deadline} where
+  -- what a send by the party is of some channel
+  pub sends_up_to : {old new : P} {messages : List T} {result : Result (Unit {0}) (SendTimeoutError (List T))}
+      → SendsManyOf did deadline old messages new result → SendsManyUpTo A deadline messages result
+  sends_up_to many.NoneLeft = many.NoneLeft
+  sends_up_to (many.AllTakenIn batch) = many.AllTakenIn batch.0
+  sends_up_to (many.IsClosed batch) = many.IsClosed batch.0
+  sends_up_to (many.IsRefused batch) = many.IsRefused batch.0
+  sends_up_to (many.FirstComesBack batch ends) = many.FirstComesBack batch.0 ends.0
+  sends_up_to (many.GoesOn batch sent rest) = many.GoesOn batch.0 sent.0 (sends_up_to rest)

@@ -5,6 +5,7 @@ use Rattle.flume_model.specs.declared.step.Step.TheVariants.{TrySend, Send, TryR
 use Rattle.flume_core.specs.declared.error.SendTimeoutError.{SendTimeoutError}
 use Rattle.flume_core.specs.declared.error.RecvTimeoutError.{RecvTimeoutError}
 use Rattle.flume_calls.specs.declared.calls.send.SendNext.{SendNext}
+use Rattle.flume_calls.specs.declared.calls.send.SendNext.TheVariants.{NeedSignal}
 use Rattle.flume_calls.specs.declared.calls.receive.RecvNext.{RecvNext}
 use Rattle.flume_calls.specs.SendTurns as send
 use Rattle.flume_calls.specs.SendGates.{WholeSend}
@@ -14,6 +15,10 @@ use Rattle.flume_deadline.specs.declared.Deadline.{Deadline}
 use Rattle.flume_deadline.specs.declared.Deadline.TheVariants.{Never}
 use Rattle.flume_deadline.specs.Deadlines.{CanBeAhead}
 use Rattle.flume.specs.LockedTurns.{HasMade}
+
+-- the first turn was made before, and found the channel full
+abbrev pub Found : {G T : Type 0} → G → T → G → SendNext T → Type 0
+Found old message new next = (new ≡ old) × (next ≡ NeedSignal message)
 
 -- the waiter was made, or couldn't be
 abbrev pub MakesWaiter : Deadline → Deadline → Bool → Type 0

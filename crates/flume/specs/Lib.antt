@@ -19,3 +19,4 @@ pub mod Selections
 pub mod SendPolls
 pub mod PartySteps
 pub mod PartyIterators
+pub mod TracedSends

@@ -1,5 +1,5 @@
 -- What a party did in the very channel of its end, by what a keeper says of it.
-use Rattle.std.specs.Prelude.{◌≡◌, ℕ, Bool, List, [], ◌∷◌, Result}
+use Rattle.std.specs.Prelude.{◌≡◌, ℕ, Bool, List, Result}
 use Rattle.flume_model.specs.declared.step.Kind.TheVariants.{Block}
 use Rattle.flume_model.specs.declared.step.Step.{Step}
 use Rattle.flume_model.specs.declared.step.Step.TheVariants.{TrySend, Send, TryRecv, Recv}
@@ -15,6 +15,7 @@ use Rattle.flume_calls.specs.ReceiveTurns as receive
 use Rattle.flume_calls.specs.ReceiveGates.{WholeReceive}
 use Rattle.flume_actions.specs.Actions.{Action}
 use Rattle.flume_keeper.specs.Keeps.{Did}
+use Rattle.flume.specs.GateSteps.{Found}
 
 -- `did` is what the keeper says: that a party made these steps, with these replies
 module _ {P T A : Type 0} (did : P → List (Action T A) → P → Type 0) where
@@ -45,6 +46,11 @@ module _ {P T A : Type 0} (did : P → List (Action T A) → P → Type 0) where
   abbrev pub SendsOf : P → T → P → Result (Unit {0}) (SendTimeoutError T) → Type 0
   SendsOf old message new result =
       WholeSend FirstSendOf Same ParkSendOf AgainSendOf Same old message new result
+
+  -- a send of the party, after a first turn that found the channel full
+  abbrev pub SendsToFullOf : P → T → P → Result (Unit {0}) (SendTimeoutError T) → Type 0
+  SendsToFullOf old message new result =
+      WholeSend Found Same ParkSendOf AgainSendOf Same old message new result
 
   -- a receive's first turn
   abbrev pub FirstReceiveOf : P → P → RecvNext T → Type 0

@@ -1,10 +1,10 @@
 //! What a call answers, by its turn or its wait.
-ghost use Rattle.std.specs.Prelude.{◌≡◌, ◌≢◌, vec_items, Err};
-ghost use Rattle.std.specs.VecDeque.{deque_items};
+ghost use Rattle.std.specs.Prelude.{◌≡◌, ◌≢◌, ◌∷◌, ◌<◌, vec_items, Err};
+ghost use Rattle.std.specs.VecDeque.{deque_items, deque_len, deque_capacity};
 ghost use Rattle.flume_calls.specs.ReceiveTurns as receive;
 ghost use Rattle.flume.specs.CallSteps as answer;
 ghost use Rattle.flume.specs.CallSteps.{NeverParks};
-ghost use Rattle.flume.specs.ManySendSteps.{try_result_list};
+ghost use Rattle.flume.specs.ManySendSteps.{try_result_list, error_list};
 
 use flume_calls::calls::{RecvNext, SendNext};
 use flume_core::error::{
@@ -41,6 +41,30 @@ pub(crate) fn try_send_many_answer<T: Drop, A: Allocator>(
         Err(TrySendError::Full(left)) => Err(TrySendError::Full(left.into_vec())),
         Err(TrySendError::Disconnected(left)) => Err(TrySendError::Disconnected(left.into_vec())),
         Err(TrySendError::NoMemory(left)) => Err(TrySendError::NoMemory(left.into_vec())),
+    }
+}
+
+// The error of a send of many: the first of them comes back, in front of those behind it.
+pub(crate) fn put_back<T: Drop, A: Allocator>(
+    mut behind: VecDeque<T, A>,
+    ended: SendTimeoutError<T>,
+) -> SendTimeoutError<Vec<T, A>>
+    requires room { deque_len behind < deque_capacity behind }
+    ensures list { error_list vec_items result ≡ error_list (λ back. back ∷ behind.items) ended }
+{
+    match ended {
+        SendTimeoutError::Timeout(back) => {
+            behind.push_front_reserved(back);
+            SendTimeoutError::Timeout(behind.into_vec())
+        }
+        SendTimeoutError::Disconnected(back) => {
+            behind.push_front_reserved(back);
+            SendTimeoutError::Disconnected(behind.into_vec())
+        }
+        SendTimeoutError::NoMemory(back) => {
+            behind.push_front_reserved(back);
+            SendTimeoutError::NoMemory(behind.into_vec())
+        }
     }
 }
 

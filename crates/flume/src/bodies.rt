@@ -9,7 +9,7 @@ ghost use Rattle.flume.specs.Iterators.{after_drain};
 ghost use Rattle.flume.specs.LockedTurns.{HasMade};
 ghost use Rattle.flume.specs.ManyReceiveSteps.{FindsNone};
 ghost use Rattle.flume.specs.PartySteps.{DidStep, FirstReceiveOf, FirstSendOf};
-ghost use Rattle.flume.specs.PartySteps.{ReceivesOf, SendsOf};
+ghost use Rattle.flume.specs.PartySteps.{ReceivesOf, SendsOf, SendsToFullOf};
 
 use crate::answers::{receive_answer, send_answer, try_receive_answer, try_send_answer};
 use crate::drain::Drain as Drained;
@@ -19,6 +19,7 @@ use crate::sender::Sender;
 use crate::shared::Waits;
 use crate::signal::Signal;
 use flume_calls::calls::{FirstReceive, FirstSend, RecvNext, SendNext};
+use flume_calls::gates::waiting_send;
 use flume_calls::single::DrainQueue;
 use flume_core::error::{
     NoMemory, RecvError, RecvTimeoutError, SendError, SendTimeoutError, TryRecvError, TrySendError,
@@ -60,16 +61,31 @@ impl<T: Drop, R: Waits, A: Allocator + Copy, K: Keeper<T, A>> Sender<T, R, A, K>
     fn send_to_full(&self, me: &mut K::Party, message: T) -> Result<(), SendError<T>>
         requires full { HasMade {A = A} (TrySend message) after_try_send
             (SendNext.NeedSignal message) }
-        requires offered { (start : K.Party)
-            × FirstSendOf K.did start message me.old (SendNext.NeedSignal message) }
         ensures made { Sends A Deadline.Never message (answer.send_as_timed result) }
         ensures no_memory { (back : T) → result ≡ Err (SendError.NoMemory back) → back ≡ message }
-        ensures did { (start : K.Party)
-            → FirstSendOf K.did start message me.old (SendNext.NeedSignal message)
-            → SendsOf K.did start message me.new (answer.send_as_timed result) }
+        ensures did { SendsToFullOf K.did me.old message me.new (answer.send_as_timed result) }
     {
-        let mut gate = Gate::new(self.shared(), Deadline::Never, me);
-        send_answer(gate.send_to_full(message))
+        send_answer(self.send_to_full_until(me, message, Deadline::Never))
+    }
+
+    // A send, after a first turn that found the channel full.
+    #[inline(always)]
+    pub(crate) fn send_to_full_until(
+        &self,
+        me: &mut K::Party,
+        message: T,
+        deadline: Deadline,
+    ) -> Result<(), SendTimeoutError<T>>
+        requires full { HasMade {A = A} (TrySend message) after_try_send
+            (SendNext.NeedSignal message) }
+        ensures made { Sends A deadline message result }
+        ensures no_memory { (back : T) → result ≡ Err (SendTimeoutError.NoMemory back)
+            → back ≡ message }
+        ensures did { SendsToFullOf K.did me.old message me.new result }
+    {
+        let shared = self.shared();
+        let mut gate = Gate::new(shared, deadline, me);
+        waiting_send(&shared.rt, &mut gate, message)
     }
 
     pub(crate) fn send_until(
@@ -83,8 +99,11 @@ impl<T: Drop, R: Waits, A: Allocator + Copy, K: Keeper<T, A>> Sender<T, R, A, K>
             → back ≡ message }
         ensures did { SendsOf K.did me.old message me.new result }
     {
-        let mut gate = Gate::new(self.shared(), deadline, me);
-        gate.send(message)
+        match self.shared().call_step(me, FirstSend { message }) {
+            SendNext::Done(result) => result,
+            SendNext::NeedSignal(message) => self.send_to_full_until(me, message, deadline),
+            SendNext::Park(_) => unreachable!(),
+        }
     }
 }
 

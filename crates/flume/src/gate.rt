@@ -1,24 +1,20 @@
 //! The gate of the ends: turns are made under the channel's lock, and a call waits on its parker.
-ghost use Rattle.std.specs.Prelude.{◌≡◌, ⊤, Err};
-ghost use Rattle.flume_model.specs.declared.step.Step.TheVariants.{TrySend, TryRecv};
-ghost use Rattle.flume_calls.specs.SendTurns.{after_try_send};
-ghost use Rattle.flume.specs.GateSteps.{MakesWaiter, WaitsUpTo, SendFirst, SendPark, SendAgain};
-ghost use Rattle.flume.specs.GateSteps.{ReceiveFirst, ReceivePark, ReceiveAgain};
-ghost use Rattle.flume.specs.GateSteps.{Sends, Receives};
-ghost use Rattle.flume.specs.LockedTurns.{HasMade};
+ghost use Rattle.std.specs.Prelude.{◌≡◌, ⊤};
+ghost use Rattle.flume.specs.GateSteps.{Found, MakesWaiter, WaitsUpTo, SendPark, SendAgain};
+ghost use Rattle.flume.specs.GateSteps.{ReceiveFirst, ReceivePark, ReceiveAgain, Receives};
 ghost use Rattle.flume.specs.ManyReceiveSteps.{FindsNone};
-ghost use Rattle.flume.specs.PartySteps.{FirstSendOf, ParkSendOf, AgainSendOf, SendsOf, Same};
+ghost use Rattle.flume.specs.PartySteps.{ParkSendOf, AgainSendOf, Same};
 ghost use Rattle.flume.specs.PartySteps.{FirstReceiveOf, ParkReceiveOf, AgainReceiveOf};
 ghost use Rattle.flume.specs.PartySteps.{ReceivesOf};
 
 use crate::shared::{Shared, Waits};
 use crate::signal::{Parker, Signal};
 use flume_calls::calls::{
-    AgainReceive, AgainSend, FirstReceive, FirstSend, ParkReceive, ParkSend, RecvCall, RecvNext,
-    SendCall, SendNext,
+    AgainReceive, AgainSend, FirstReceive, ParkReceive, ParkSend, RecvCall, RecvNext, SendCall,
+    SendNext,
 };
-use flume_calls::gates::{RecvGate, SendGate, recv_over, send_over, waiting_receive, waiting_send};
-use flume_core::error::{RecvTimeoutError, SendTimeoutError};
+use flume_calls::gates::{RecvGate, SendGate, recv_over, waiting_receive};
+use flume_core::error::RecvTimeoutError;
 use flume_deadline::Deadline;
 use flume_keeper::Keeper;
 use flume_model::step::Kind;
@@ -48,38 +44,6 @@ impl<'a, T: Drop, R: Waits, A: Allocator + Copy, K: Keeper<T, A>> Gate<'a, T, R,
             deadline,
             me,
         }
-    }
-
-    /// A send, with its first turn.
-    #[inline(always)]
-    pub(crate) fn send(&mut self, message: T) -> Result<(), SendTimeoutError<T>>
-        ensures made { Sends A self.old.deadline message result }
-        ensures no_memory { (back : T) → result ≡ Err (SendTimeoutError.NoMemory back)
-            → back ≡ message }
-        ensures did { SendsOf K.did self.old.me.now message self.new.me.now result }
-        ensures same_reference { self.new.me.ghost_name ≡ self.old.me.ghost_name }
-    {
-        let shared = self.shared;
-        send_over(&shared.rt, self, message)
-    }
-
-    /// A send, after a first turn that found the channel full.
-    #[inline(always)]
-    pub(crate) fn send_to_full(&mut self, message: T) -> Result<(), SendTimeoutError<T>>
-        requires full { HasMade {A = A} (TrySend message) after_try_send
-            (SendNext.NeedSignal message) }
-        requires offered { (start : K.Party)
-            × FirstSendOf K.did start message self.old.me.now (SendNext.NeedSignal message) }
-        ensures made { Sends A self.old.deadline message result }
-        ensures no_memory { (back : T) → result ≡ Err (SendTimeoutError.NoMemory back)
-            → back ≡ message }
-        ensures did { (start : K.Party)
-            → FirstSendOf K.did start message self.old.me.now (SendNext.NeedSignal message)
-            → SendsOf K.did start message self.new.me.now result }
-        ensures same_reference { self.new.me.ghost_name ≡ self.old.me.ghost_name }
-    {
-        let shared = self.shared;
-        waiting_send(&shared.rt, self, message)
     }
 
     /// A receive, with its first turn.
@@ -115,10 +79,8 @@ impl<T: Drop, R: Waits, A: Allocator + Copy, K: Keeper<T, A>> SendGate<T> for Ga
 
     type Signal = Signal<A>;
 
-    ghost first_turn = { λ old message new next.
-        SendFirst A old.deadline message new.deadline next
-        × (new.me.ghost_name ≡ old.me.ghost_name)
-        × FirstSendOf K.did old.me.now message new.me.now next };
+    // A send has a gate only after its first turn, which found the channel full.
+    ghost first_turn = { Found };
 
     ghost makes = { λ old new made. MakesWaiter old.deadline new.deadline made
         × (new.me.ghost_name ≡ old.me.ghost_name) × Same K.did old.me.now new.me.now made };
@@ -138,7 +100,7 @@ impl<T: Drop, R: Waits, A: Allocator + Copy, K: Keeper<T, A>> SendGate<T> for Ga
 
     #[inline(always)]
     fn first(&mut self, message: T) -> SendNext<T> {
-        self.shared.call_step(self.me, FirstSend { message })
+        SendNext::NeedSignal(message)
     }
 
     #[inline(always)]

@@ -1,25 +1,21 @@
 //! Sends of many messages, as many as the channel takes in under one lock.
-ghost use Rattle.std.specs.Prelude.{◌≡◌, ◌≢◌, ◌∷◌, ◌<◌, List, Vec, vec_items, IfOk, IfErr, Ok, Err};
-ghost use Rattle.std.specs.VecDeque.{deque_len};
+ghost use Rattle.std.specs.Prelude.{◌≡◌, ◌≢◌, Vec, vec_items, Err};
 ghost use Rattle.flume_deadline.specs.declared.Deadline.{Deadline};
 ghost use Rattle.flume_deadline.specs.declared.Deadline.TheVariants.{Never};
 ghost use Rattle.flume_deadline.specs.Deadlines.{IsAfter};
 ghost use Rattle.flume_calls.specs.ManySends.{IsRest};
-ghost use Rattle.flume_calls.specs.SendTurns.{after_try_send};
 ghost use Rattle.flume.specs.CallSteps as answer;
 ghost use Rattle.flume.specs.ManySendCalls.{IsRestAfterWait};
-ghost use Rattle.flume.specs.ManySendSteps.{SendsBatch, SendsFirst, SendsManyUpTo};
-ghost use Rattle.flume.specs.ManySendSteps.{try_result_list, error_list, result_list};
-ghost use Rattle.flume.specs.LockedTurns.{HasMade};
+ghost use Rattle.flume.specs.ManySendSteps.{SendsBatch, SendsManyUpTo, BatchOf, SendsManyOf};
+ghost use Rattle.flume.specs.ManySendSteps.{try_result_list, result_list};
 
-use crate::answers::{send_answer, try_send_many_answer};
+use crate::answers::{put_back, send_answer, try_send_many_answer};
 use crate::sender::Sender;
 use crate::shared::Waits;
-use flume_calls::calls::{SendMany, SendNext};
+use flume_calls::calls::SendMany;
 use flume_core::error::{SendError, SendTimeoutError, TrySendError};
 use flume_deadline::Deadline;
-use flume_keeper::NoParty;
-use flume_model::step::Step;
+use flume_keeper::{Keeper, NoParty};
 use std::alloc::Allocator;
 use std::collections::VecDeque;
 use std::time::{Duration, Instant};
@@ -42,8 +38,7 @@ impl<T: Drop, R: Waits, A: Allocator + Copy> Sender<T, R, A> {
         ensures no_memory { (rest : Vec T A) → result ≡ Err (TrySendError.NoMemory rest)
             → IsRest messages.items rest.items }
     {
-        let messages = VecDeque::from_vec(messages);
-        try_send_many_answer(self.shared().call_many(&mut NoParty, SendMany { messages }))
+        self.try_send_many_as(&mut NoParty, messages)
     }
 
     /// Sends messages in order, as `send` does. Messages of other senders may come between. An
@@ -64,7 +59,7 @@ impl<T: Drop, R: Waits, A: Allocator + Copy> Sender<T, R, A> {
         ensures no_memory { (rest : Vec T A) → result ≡ Err (SendError.NoMemory rest)
             → IsRest messages.items rest.items }
     {
-        send_answer(self.send_many_until(messages, Deadline::Never))
+        send_answer(self.send_many_until(&mut NoParty, messages, Deadline::Never))
     }
 
     /// As `send_many`, up to the deadline, as `send_deadline` is: what is sent by then stays sent.
@@ -87,7 +82,7 @@ impl<T: Drop, R: Waits, A: Allocator + Copy> Sender<T, R, A> {
         ensures no_memory { (rest : Vec T A) → result ≡ Err (SendTimeoutError.NoMemory rest)
             → IsRest messages.items rest.items }
     {
-        self.send_many_until(messages, Deadline::At(deadline))
+        self.send_many_until(&mut NoParty, messages, Deadline::At(deadline))
     }
 
     /// As `send_many_deadline`, so long from now, as of `send_timeout`.
@@ -106,15 +101,36 @@ impl<T: Drop, R: Waits, A: Allocator + Copy> Sender<T, R, A> {
             → IsRest messages.items rest.items }
     {
         let deadline = Deadline::after(&self.shared().rt, timeout);
-        self.send_many_until(messages, deadline)
+        self.send_many_until(&mut NoParty, messages, deadline)
+    }
+}
+
+impl<T: Drop, R: Waits, A: Allocator + Copy, K: Keeper<T, A>> Sender<T, R, A, K> {
+    pub(crate) fn try_send_many_as(
+        &self,
+        me: &mut K::Party,
+        messages: Vec<T, A>,
+    ) -> Result<(), TrySendError<Vec<T, A>>>
+        ensures made { SendsBatch A messages.items (try_result_list vec_items result) }
+        ensures full { (rest : Vec T A) → result ≡ Err (TrySendError.Full rest)
+            → IsRest messages.items rest.items }
+        ensures disconnected { (rest : Vec T A) → result ≡ Err (TrySendError.Disconnected rest)
+            → IsRest messages.items rest.items }
+        ensures no_memory { (rest : Vec T A) → result ≡ Err (TrySendError.NoMemory rest)
+            → IsRest messages.items rest.items }
+        ensures did { BatchOf K.did me.old messages.items me.new
+            (try_result_list vec_items result) }
+    {
+        let messages = VecDeque::from_vec(messages);
+        try_send_many_answer(self.shared().call_many(me, SendMany { messages }))
     }
 
-    fn send_many_until(
+    pub(crate) fn send_many_until(
         &self,
+        me: &mut K::Party,
         messages: Vec<T, A>,
         deadline: Deadline,
     ) -> Result<(), SendTimeoutError<Vec<T, A>>>
-        ensures made { SendsManyUpTo A deadline messages.items (result_list vec_items result) }
         ensures timeout { (rest : Vec T A) → result ≡ Err (SendTimeoutError.Timeout rest)
             → IsRestAfterWait messages.items rest.items }
         ensures disconnected { (rest : Vec T A) → result ≡ Err (SendTimeoutError.Disconnected rest)
@@ -123,18 +139,22 @@ impl<T: Drop, R: Waits, A: Allocator + Copy> Sender<T, R, A> {
             → IsRest messages.items rest.items }
         ensures in_time { deadline ≡ Never → (rest : Vec T A)
             → result ≢ Err (SendTimeoutError.Timeout rest) }
+        ensures did { SendsManyOf K.did deadline me.old messages.items me.new
+            (result_list vec_items result) }
     {
         let mut left = VecDeque::from_vec(messages);
         while !left.is_empty() {
-            left = match self
-                .shared()
-                .call_many(&mut NoParty, SendMany { messages: left })
-            {
+            left = match self.shared().call_many(me, SendMany { messages: left }) {
                 Ok(()) => return Ok(()),
-                Err(TrySendError::Full(full)) => match self.send_first_until(full, deadline) {
-                    Ok(behind) => behind,
-                    Err(ended) => return Err(ended),
-                },
+                Err(TrySendError::Full(mut full)) => {
+                    let Some(first) = full.pop_front() else {
+                        unreachable!();
+                    };
+                    match self.send_to_full_until(me, first, deadline) {
+                        Ok(()) => full,
+                        Err(ended) => return Err(put_back(full, ended)),
+                    }
+                }
                 Err(TrySendError::Disconnected(rest)) => {
                     return Err(SendTimeoutError::Disconnected(rest.into_vec()));
                 }
@@ -144,48 +164,5 @@ impl<T: Drop, R: Waits, A: Allocator + Copy> Sender<T, R, A> {
             };
         }
         Ok(())
-    }
-
-    fn send_first_until(
-        &self,
-        mut messages: VecDeque<T, A>,
-        deadline: Deadline,
-    ) -> Result<VecDeque<T, A>, SendTimeoutError<Vec<T, A>>>
-        requires some { 0 < deque_len messages }
-        requires full { (first : T) (behind : List T) → messages.items ≡ first ∷ behind
-            → HasMade {A = A} (Step.TrySend first) after_try_send (SendNext.NeedSignal first) }
-        ensures ok { IfOk result (λ behind.
-            SendsFirst A deadline messages.items (Ok behind.items)) }
-        ensures error { IfErr result (λ error.
-            SendsFirst A deadline messages.items (Err (error_list vec_items error))) }
-        ensures others { IfOk result (λ behind. (first : T)
-            × (messages.items ≡ first ∷ behind.items)) }
-        ensures timeout { (rest : Vec T A) → result ≡ Err (SendTimeoutError.Timeout rest)
-            → IsRestAfterWait messages.items rest.items }
-        ensures disconnected { (rest : Vec T A) → result ≡ Err (SendTimeoutError.Disconnected rest)
-            → IsRestAfterWait messages.items rest.items }
-        ensures no_memory { (rest : Vec T A) → result ≡ Err (SendTimeoutError.NoMemory rest)
-            → rest.items ≡ messages.items }
-        ensures in_time { deadline ≡ Never → (rest : Vec T A)
-            → result ≢ Err (SendTimeoutError.Timeout rest) }
-    {
-        let Some(first) = messages.pop_front() else {
-            unreachable!();
-        };
-        match self.send_to_full_until(first, deadline) {
-            Ok(()) => Ok(messages),
-            Err(SendTimeoutError::Timeout(back)) => {
-                messages.push_front_reserved(back);
-                Err(SendTimeoutError::Timeout(messages.into_vec()))
-            }
-            Err(SendTimeoutError::Disconnected(back)) => {
-                messages.push_front_reserved(back);
-                Err(SendTimeoutError::Disconnected(messages.into_vec()))
-            }
-            Err(SendTimeoutError::NoMemory(back)) => {
-                messages.push_front_reserved(back);
-                Err(SendTimeoutError::NoMemory(messages.into_vec()))
-            }
-        }
     }
 }

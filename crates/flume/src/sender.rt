@@ -1,5 +1,5 @@
 //! The senders of a channel.
-ghost use Rattle.std.specs.Prelude.{◌≡◌, ◌≢◌, ℕ, ◌==◌, IfOk, Err, length};
+ghost use Rattle.std.specs.Prelude.{◌≡◌, ℕ, ◌==◌, IfOk, Err, length};
 ghost use Rattle.flume_model.specs.Entries.{waiting_count};
 ghost use Rattle.flume_model.specs.Line.{blocked};
 ghost use Rattle.flume_model.specs.Parked.{entries};
@@ -12,11 +12,9 @@ ghost use Rattle.flume.specs.CallSteps as answer;
 ghost use Rattle.flume.specs.GateSteps.{Sends};
 ghost use Rattle.flume.specs.LockedTurns.{HasCounted, HasMade};
 
-use crate::gate::Gate;
 use crate::shared::{Shared, Waits};
 use crate::signal::Signal;
 use crate::weak::WeakSender;
-use flume_calls::calls::SendNext;
 use flume_calls::single::{CountQuery, EndStep, FlagQuery};
 use flume_core::error::{CapacityError, NoMemory, SendError, SendTimeoutError, TrySendError};
 use flume_deadline::Deadline;
@@ -108,22 +106,6 @@ impl<T: Drop, R: Waits, A: Allocator + Copy> Sender<T, R, A> {
     {
         let deadline = Deadline::after(&self.shared.rt, timeout);
         self.send_until(&mut NoParty, message, deadline)
-    }
-
-    pub(crate) fn send_to_full_until(
-        &self,
-        message: T,
-        deadline: Deadline,
-    ) -> Result<(), SendTimeoutError<T>>
-        requires full { HasMade {A = A} (Step.TrySend message) after_try_send
-            (SendNext.NeedSignal message) }
-        ensures made { Sends A deadline message result }
-        ensures no_memory { (back : T) → result ≡ Err (SendTimeoutError.NoMemory back)
-            → back ≡ message }
-    {
-        let me = &mut NoParty;
-        let mut gate = Gate::new(&self.shared, deadline, me);
-        gate.send_to_full(message)
     }
 }
 

@@ -13,7 +13,7 @@
 //! me.merge(other);
 //! assert!(rt; rx.settle(&mut me));
 //! ```
-//! What a call does is one function, of these ends and of the others. These have no calls of many
+//! What a call does is one function, of these ends and of the others. These have no receives of many
 //! messages, no iterators, futures and selections yet. Clones, drops and queries take no party.
 ghost use Rattle.std.specs.Prelude.{◌≡◌, ◌≢◌, ◌<◌, [], IfOk, Err};
 ghost use Rattle.flume_model.specs.declared.step.Step.TheVariants.{TrySend, TryRecv, Drain};
@@ -28,6 +28,8 @@ ghost use Rattle.flume_actions.specs.Calls.{sent_by, got_by, drained_by};
 ghost use Rattle.flume.specs.CallSteps as answer;
 ghost use Rattle.flume.specs.GateSteps.{Receives, Sends};
 ghost use Rattle.flume.specs.Iterators.{after_drain};
+
+mod send_many;
 
 use crate::builder::Builder;
 use crate::drain::Drain as Drained;

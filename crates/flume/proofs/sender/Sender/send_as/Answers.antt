@@ -1,12 +1,11 @@
 -- A send ends with its first turn, or goes on from the channel that it found full.
-use Rattle.std.proofs.Common.{refl, sym, subst}
-use Rattle.flume_calls.specs.declared.calls.send.SendNext.TheVariants.{Done, NeedSignal}
+use Rattle.std.proofs.Common.{refl, subst}
+use Rattle.flume_calls.specs.declared.calls.send.SendNext.TheVariants.{Done}
 use Rattle.flume_calls.specs.SendTurns.{IsFirstAnswer}
 use Rattle.flume_calls.specs.SendGates.{AtFirst}
 use Rattle.flume_deadline.specs.declared.Deadline.TheVariants.{Never}
-use Rattle.flume.specs.CallSteps.{send_as_timed}
 use Rattle.flume.specs.GateSteps.{Sends}
-use Rattle.flume.specs.PartySteps.{FirstSendOf, SendsOf}
+use Rattle.flume.proofs.FirstTurnLemmas.{after_first}
 use Rattle.flume.proofs.StepLemmas.{one_step, step_made}
 use Rattle.flume.proofs.sender.Sender.send_as.Goals as goal
 
@@ -31,9 +30,5 @@ returns-in-Done-clause-made g c =
 
 pub returns-in-NeedSignal-clause-did : goal.returns-in-NeedSignal-clause-did
 returns-in-NeedSignal-clause-did g c =
-    let did = g.K.Keeper.did in
     let same = c.in-NeedSignal.ensures.answers in
-    let found = subst (λ sent. FirstSendOf did c.args.me.now sent c.call_step.new.me (NeedSignal c.in-NeedSignal.message)) (sym same)
-    c.in-NeedSignal.ensures.did in
-    subst (λ sent. SendsOf did c.args.me.now sent c.send_to_full.new.me (send_as_timed c.send_to_full.result)) same
-    (c.send_to_full.ensures.did c.args.me.now found)
+    rw (← same) (after_first (rw (← same) at c.in-NeedSignal.ensures.did) c.send_to_full.ensures.did)
