@@ -3,10 +3,12 @@
 
 mod exchanging;
 mod piping;
+mod pooling;
 mod threads;
 
 use exchanging::exchange;
 use piping::pipeline;
+use pooling::pool;
 use std::io;
 
 fn main(rt: HostRuntime) -> io::Result<()> {
@@ -18,5 +20,8 @@ fn main(rt: HostRuntime) -> io::Result<()> {
     println!(rt; "what was exchanged: {all:?}")?;
     let halves = pipeline(rt, rt.alloc(), &second)?;
     println!(rt; "the halves, in order: {halves:?}")?;
+    let mut halves = pool(rt, rt.alloc(), &first)?;
+    halves.sort()?;
+    println!(rt; "the halves, by a pool: {halves:?}")?;
     Ok(())
 }

@@ -3,9 +3,9 @@ ghost use Rattle.std.specs.Prelude.{◌≡◌, [], IfOk};
 ghost use Rattle.flume_actions.specs.Callers.{HasMadeCalls};
 ghost use Rattle.exchange.specs.Halving.{halves, HasHalved};
 
-use crate::threads::{Halved, Received, halve_all, receive_all, send_all};
+use crate::threads::{Halved, Halver, halve_all, receive_all, send_all};
 use flume::Runtime;
-use flume::traced::{ChannelName, ChannelParty, TracedReceiver, TracedSender, UnopenedChannel};
+use flume::traced::{ChannelName, ChannelParty, TracedSender, UnopenedChannel};
 use std::alloc::Global;
 use std::io;
 use std::io::ErrorKind;
@@ -15,26 +15,19 @@ use std::thread::join;
 /// One thread sends the numbers, the next one sends the half of each.
 fn send_halves<R, J, K>(
     rt: R,
-    first: (TracedSender<u64, R, J>, TracedReceiver<u64, R, J>),
-    to: TracedSender<u64, R, K>,
-    parties: (ChannelParty<u64, J>, ChannelParty<u64, J>),
-    writer: ChannelParty<u64, K>,
+    tx: TracedSender<u64, R, J>,
+    sender: ChannelParty<u64, J>,
+    halver: Halver<R, J, K>,
     numbers: &[u64],
 ) -> io::Result<(ChannelParty<u64, J>, Halved<R, J, K>)>
 where
     R: Runtime,
     J: ChannelName + Send + Sync,
     K: ChannelName + Send + Sync,
-    ensures sent { IfOk result (λ r. HasMadeCalls parties.0 r.0 numbers.now []
-        × HasHalved parties.1 r.1.reader writer r.1.writer) }
+    ensures sent { IfOk result (λ r. HasMadeCalls sender r.0 numbers.now []
+        × HasHalved halver.reader r.1.reader halver.writer r.1.writer) }
 {
-    let (tx, rx) = first;
-    let (sender, reader) = parties;
-    let (sent, halved) = join(
-        &rt,
-        || send_all(tx, sender, numbers),
-        || halve_all(rt, rx, to, reader, writer),
-    );
+    let (sent, halved) = join(&rt, || send_all(tx, sender, numbers), || halve_all(halver));
     Ok((sent?, halved?))
 }
 
@@ -56,12 +49,18 @@ where
 {
     let (tx, rx, mut left) = flume::on(rt).traced::<u64, J>(first)?;
     let (to, from, mut right) = flume::on(rt).traced::<u64, K>(second)?;
-    let parties = (left.split_off(1), left.split_off(1));
-    let (writer, collector) = (right.split_off(1), right.split_off(1));
-    let ran = send_halves(rt, (tx, rx), to, parties, writer, numbers)?;
+    let sender = left.split_off(1);
+    let halver = Halver {
+        rt,
+        rx,
+        tx: to,
+        reader: left.split_off(1),
+        writer: right.split_off(1),
+    };
+    let collector = right.split_off(1);
+    let (sent, halved) = send_halves(rt, tx, sender, halver, numbers)?;
     let collected = receive_all(rt, alloc, from, collector)?;
-    let (sender, halved) = ran;
-    left.merge(sender);
+    left.merge(sent);
     left.merge(halved.reader);
     right.merge(halved.writer);
     right.merge(collected.me);

@@ -16,7 +16,17 @@ pub struct Received<R: Waits, J: ChannelName> {
     pub items: Vec<u64>,
 }
 
-/// What a thread halved from one channel into another with, but for the sender.
+/// A thread that halves what comes from one channel into another, by its ends and parties.
+#[derive(Drop)]
+pub struct Halver<R: Waits, J: ChannelName, K: ChannelName> {
+    pub rt: R,
+    pub rx: TracedReceiver<u64, R, J>,
+    pub tx: TracedSender<u64, R, K>,
+    pub reader: ChannelParty<u64, J>,
+    pub writer: ChannelParty<u64, K>,
+}
+
+/// What it ended with. Its sender is dropped.
 #[derive(Drop)]
 pub struct Halved<R: Waits, J: ChannelName, K: ChannelName> {
     pub rx: TracedReceiver<u64, R, J>,
@@ -60,14 +70,17 @@ pub fn receive_all<R: Waits, J: ChannelName>(
 
 /// Sends half of each number that it receives, until all senders of those are dropped.
 pub fn halve_all<R: Waits, J: ChannelName, K: ChannelName>(
-    rt: R,
-    rx: TracedReceiver<u64, R, J>,
-    tx: TracedSender<u64, R, K>,
-    mut reader: ChannelParty<u64, J>,
-    mut writer: ChannelParty<u64, K>,
+    halver: Halver<R, J, K>,
 ) -> io::Result<Halved<R, J, K>>
-    ensures halved { IfOk result (λ r. HasHalved reader r.reader writer r.writer) }
+    ensures halved { IfOk result (λ r. HasHalved halver.reader r.reader halver.writer r.writer) }
 {
+    let Halver {
+        rt,
+        rx,
+        tx,
+        mut reader,
+        mut writer,
+    } = halver;
     for _ in rt.forever() {
         match rx.recv(&mut reader) {
             Ok(number) => tx.send(&mut writer, number / 2)?,
