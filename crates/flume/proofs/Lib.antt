@@ -16,6 +16,8 @@ mod TracedLemmas
 mod TracedCallLemmas
 -- What a party's send of many messages sent.
 mod TracedSendLemmas
+-- What a receive of many of a party did, and what it got.
+mod TracedReceiveLemmas
 -- The arms of a list of sends, one for each pair so far.
 mod ArmListLemmas
 -- What a party did by a `next` of its iterator, as calls.

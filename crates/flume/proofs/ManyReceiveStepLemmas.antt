@@ -1,5 +1,6 @@
--- The turns of a receive of many: the steps that they made, of some channel, and what they say of the list.
-use Rattle.std.proofs.Common.{◌≡◌, ℕ, ◌+◌, ◌<◌, ◌⊎◌, List, ◌∷◌, Result, Ok, Err, Vec, vec_len, vec_capacity, refl, sym, ◌∙◌, subst, arith}
+-- What a party of a channel without a trace did is what some run goes on with; and what turns of a receive of many say of the list.
+use Rattle.std.proofs.Common.{◌≡◌, ℕ, ◌+◌, ◌<◌, ◌⊎◌, inl, inr, List, [], ◌∷◌, ◌++◌, Result, Ok, Err, Vec, zero, suc}
+use Rattle.std.proofs.Common.{vec_len, vec_capacity, refl, ap, ◌∙◌, subst, length, arith}
 use Rattle.flume_model.specs.declared.step.Step.{Step}
 use Rattle.flume_model.specs.declared.step.Reply.{Reply}
 use Rattle.flume_model.specs.Log.{Log, Opening}
@@ -10,15 +11,16 @@ use Rattle.flume_core.specs.declared.error.RecvTimeoutError.{RecvTimeoutError}
 use Rattle.flume_core.specs.declared.error.RecvTimeoutError.TheVariants.{Timeout, Disconnected, NoMemory}
 use Rattle.flume_calls.specs.declared.calls.receive.RecvNext.{RecvNext}
 use Rattle.flume_calls.specs.declared.calls.receive.RecvNext.TheVariants.{Done, NeedSignal, Park, Refused}
-use Rattle.flume_calls.specs.declared.calls.receive_many.ManyNext.{ManyNext}
-use Rattle.flume_calls.specs.Turns.{Turned}
-use Rattle.flume_calls.specs.Batches.{StepsBetween, NoSteps, FirstStep, IsBatch, log_after}
-use Rattle.flume_calls.specs.ReceiveTurns as turn
-use Rattle.flume_calls.specs.ManyReceives.{with_more, FirstManyTable, Some, None, NoRoom, FirstManyOutcome}
-use Rattle.flume.specs.LockedTurns.{HasDone}
-use Rattle.flume.specs.ManyReceiveCalls.{AnswersMany}
+use Rattle.flume_calls.specs.Batches.{StepsBetween, NoSteps, FirstStep, IsOneStep, log_after}
+use Rattle.flume_calls.specs.ReceiveGates as gate
+use Rattle.flume_calls.specs.ManyReceives.{each_got, FirstManyOutcome}
+use Rattle.flume_actions.specs.Actions.{Action}
+use Rattle.flume_keeper.specs.Keeps.{Did, SomeRunGoesOn}
+use Rattle.flume.specs.LockedTurns.{HasMade}
 use Rattle.flume.specs.ManyReceiveSteps.{LacksRoom, ReceivesBatch, MakesMany, FindsNone, ReceivesMany}
-use Rattle.flume.proofs.StepLemmas.{step_made}
+use Rattle.flume.specs.ManyReceiveSteps as steps
+use Rattle.flume.specs.ManyReceiveGates.{ManyState, FirstManyOf, TurnAndMoreOf, ReceivesManyOf}
+use Rattle.flume.proofs.ManyReceiveLemmas.{first_none, last_turn}
 
 module _ {T S A : Type 0} where
   -- the steps of a batch are steps that a run goes on with
@@ -28,78 +30,83 @@ module _ {T S A : Type 0} where
   steps_run opening log represents (FirstStep {step = step} {reply = reply} stepped later) =
       steps_run opening ((step, reply) ∷ log) (stepped.extends opening log represents) later
 
-  -- the steps of a first turn
-  pub first_made : {before : List T} {outcome : State T S → State T S → ManyNext T A → Type 0} {answer : ManyNext T A}
-      → HasDone A (λ old new answer. IsBatch {A = A} (λ made is. FirstManyTable before made is.buffer.items is.next) old new answer
-      × outcome old new answer) answer
-      → ReceivesBatch A before answer.buffer.items answer.next
-  first_made done =
-      let batch = done.turn.0 in
-      record {
-        opening = done.opening;
-        log = done.log;
-        made = batch.made;
-        run = steps_run done.opening done.log done.represents batch.reachable;
-        answered = batch.answered;
-      }
-
   -- a first turn that found no memory lacked room
   pub lacks_room : (buffer : Vec T A) (most : ℕ) (old new : State T S) (next : RecvNext ℕ) → FirstManyOutcome buffer most old new next
       → LacksRoom buffer most next
-  lacks_room buffer most old new (Done (Ok count)) is = tt
-  lacks_room buffer most old new (Done (Err Timeout)) is = tt
-  lacks_room buffer most old new (Done (Err Disconnected)) is = tt
-  lacks_room buffer most old new (Done (Err NoMemory)) is = let lacks = (is.no_memory refl).1 in omega arith
-  lacks_room buffer most old new NeedSignal is = tt
-  lacks_room buffer most old new (Park t) is = tt
-  lacks_room buffer most old new (Refused t) is = tt
-
-  -- one step was made, and its answer is with how many came
-  pub made_many : {step : Step T} {table : Reply T A → RecvNext T → Type 0} {outcome : State T S → State T S → RecvNext T → Type 0}
-      {next : RecvNext ℕ} → AnswersMany (HasDone A (λ old new answer. Turned {A = A} step table old new answer × outcome old new answer))
-      next
-      → MakesMany A step table next
-  made_many is = record { first = is.first; more = is.more; answered = step_made is.answered; next_is = is.next_is }
-
-module _ {T : Type 0} where
-  -- a turn that found none is the answer of one that may take one message and found none
-  needs : (first : RecvNext T) → with_more 0 first ≡ NeedSignal → first ≡ NeedSignal
-  needs (Done (Ok m)) is = absurd (let none : ⊥ = cc in none)
-  needs (Done (Err e)) is = absurd (let none : ⊥ = cc in none)
-  needs NeedSignal is = refl
-  needs (Park t) is = absurd (let none : ⊥ = cc in none)
-  needs (Refused t) is = absurd (let none : ⊥ = cc in none)
+  lacks_room buffer most old new next is = grind arith
 
 module _ {T A : Type 0} where
-  -- the steps of a first turn, from a list that is equal and to an answer that is
-  pub takes_from : {a b after : List T} {next last : RecvNext ℕ} → a ≡ b → next ≡ last → ReceivesBatch A a after next
-      → ReceivesBatch A b after last
-  takes_from {b = b} {after = after} {next = next} e f is =
-      subst (λ n. ReceivesBatch A b after n) f (subst (λ l. ReceivesBatch A l after next) e is)
+  -- a run is one up to each of its steps
+  earlier : (opening : Opening) (log : Log T A) (later : List (Action T A)) → IsRun opening (log_after log later) → IsRun opening log
+  earlier opening log [] run = run
+  earlier opening log (made ∷ later) run = (earlier opening (made ∷ log) later run).1
 
-  -- the one step of a first turn that found none
-  pub first_none : {before after : List T} → ReceivesBatch A before after NeedSignal → FindsNone T A
-  first_none {before} {after} is = go is.made NeedSignal is.answered refl is.run
-    where
-      go : (made : List (Step T × Reply T A)) (next : RecvNext ℕ) → FirstManyTable before made after next → next ≡ NeedSignal
-          → IsRun is.opening (log_after is.log made) → FindsNone T A
-      go made next (Some count took done) same run = absurd (let none : ⊥ = cc in none)
-      go made next (NoRoom none kept done) same run = absurd (let none : ⊥ = cc in none)
-      go made next (None reply first made_is answered none kept done) same run = record {
-        opening = is.opening;
-        log = is.log;
-        reply = reply;
-        run = subst (λ m. IsRun is.opening (log_after is.log m)) made_is run;
-        answered = subst (λ n. turn.after_try_recv reply n) (needs first (sym done ∙ same)) answered;
+module _ {P T A : Type 0} where
+  -- what is said of a party of a channel without a trace
+  abbrev pub some_run : P → List (Action T A) → P → Type 0
+  some_run old made new = SomeRunGoesOn made
+
+  -- one step
+  step_made : {N : Type 0} {step : Step T} {table : Reply T A → N → Type 0} {old new : P} {answer : N}
+      → Did some_run (IsOneStep step table) old answer new → HasMade step table answer
+  step_made did = record {
+    opening = did.made.opening;
+    log = did.made.log;
+    reply = did.answered.reply;
+    run = subst (λ made. IsRun did.made.opening (log_after did.made.log made)) did.answered.is did.made.run;
+    answered = did.answered.answered;
+  }
+
+  -- a first turn
+  pub first_made : {old new : ManyState P T A} {next : RecvNext ℕ} → FirstManyOf some_run old new next
+      → ReceivesBatch A old.list.items new.list.items next
+  first_made first =
+      let did = first.turn in
+      record { opening = did.made.opening; log = did.made.log; made = did.steps; run = did.made.run; answered = did.answered }
+
+  -- a turn of one step, and what it took behind it
+  more_made : {step : Step T} {table : Reply T A → RecvNext T → Type 0} {old new : ManyState P T A} {next : RecvNext ℕ}
+      → TurnAndMoreOf some_run (IsOneStep step table) old new next → MakesMany A step table next
+  more_made {step = step} more =
+      let run = more.turn.made in
+      let all = more.turn.answered in
+      let one = all.answered in
+      record {
+        first = all.first;
+        more = length all.taken;
+        answered = record {
+          opening = run.opening;
+          log = run.log;
+          reply = one.reply;
+          run = earlier run.opening ((step, one.reply) ∷ run.log) (each_got all.taken)
+              (subst (λ made. IsRun run.opening (log_after run.log made)) (all.steps ∙ ap (λ made. made ++ each_got all.taken) one.is) run.run);
+          answered = one.answered;
+        };
+        next_is = all.gives.next_is;
       }
 
-  -- how a call ended, from a list that is equal and with a result that is
-  pub many_from : {a b after : List T} {ended result : Result ℕ RecvTimeoutError} → a ≡ b → ended ≡ result → ReceivesMany A a after ended
-      → ReceivesMany A b after result
-  many_from {b = b} {after = after} {ended = ended} e f is =
-      subst (λ r. ReceivesMany A b after r) f (subst (λ l. ReceivesMany A l after ended) e is)
+  -- a whole call
+  pub many_made : {most : ℕ} {old new : P} {before after : Vec T A} {result : Result ℕ RecvTimeoutError}
+      → ReceivesManyOf some_run most old before new after result → ReceivesMany A before.items after.items result
+  many_made (end, gate.AtFirst f) = steps.AtFirst (first_made f)
+  many_made (end, gate.NoWaiter f a e) = steps.NoWaiter (step_made (first_none f).0) e
+  many_made (end, gate.AtPark f a p) = steps.AtPark (step_made (first_none f).0) (more_made p.turn)
+  many_made (end, gate.Parked f a p rest) =
+      let last = last_turn rest in
+      steps.AtAgain (step_made (first_none f).0) last.ticket last.last (more_made last.turn.turn)
 
-  -- the room of a list that is equal
-  pub lacks_from : {a b : Vec T A} {none : Type 0} (most : ℕ) → a ≡ b → (vec_capacity a < vec_len a + most) ⊎ none
-      → (vec_capacity b < vec_len b + most) ⊎ none
-  lacks_from {none = none} most e is = subst (λ l. (vec_capacity l < vec_len l + most) ⊎ none) e is
+  -- if a whole call found no memory, it lacked room, or none was there
+  lacks : {most : ℕ} {old new : P} {before after : Vec T A} {result : Result ℕ RecvTimeoutError}
+      → ReceivesManyOf some_run most old before new after result → result ≡ Err NoMemory
+      → (vec_capacity before < vec_len before + most) ⊎ FindsNone T A
+  lacks {most} {before = before} (end, gate.AtFirst f) said = inl (subst (λ r. LacksRoom before most (Done r)) said f.room)
+  lacks (end, gate.NoWaiter f a e) said = inr (step_made (first_none f).0)
+  lacks (end, gate.AtPark f a p) said = inr (step_made (first_none f).0)
+  lacks (end, gate.Parked f a p rest) said = inr (step_made (first_none f).0)
+
+  -- the same of one that may have been asked for none
+  pub many_lacks : (most : ℕ) {old new : P} {before after : Vec T A} {result : Result ℕ RecvTimeoutError} → (most ≡ 0 → result ≡ Ok 0)
+      → (0 < most → ReceivesManyOf some_run most old before new after result) → result ≡ Err NoMemory
+      → (vec_capacity before < vec_len before + most) ⊎ FindsNone T A
+  many_lacks zero none run said = let asked = none refl in absurd (let never : ⊥ = cc in never)
+  many_lacks (suc n) none run said = lacks (run (omega arith)) said

@@ -9,6 +9,8 @@ pub mod LockedPolls
 pub mod LockedTurns
 pub mod ManyReceiveCalls
 pub mod ManyReceiveSteps
+pub mod ManyReceiveGates
+pub mod ManyReceiveActions
 pub mod ManySendCalls
 pub mod ManySendPolls
 pub mod ManySendSteps

@@ -3,9 +3,9 @@ ghost use Rattle.std.specs.Prelude.{◌≡◌, ◌≢◌, ◌⊎◌, ◌+◌, �
 ghost use Rattle.std.specs.Prelude.{vec_len, vec_capacity};
 ghost use Rattle.flume_deadline.specs.declared.Deadline.TheVariants.{Never};
 ghost use Rattle.flume.specs.CallSteps as answer;
-ghost use Rattle.flume.specs.ManyReceiveCalls.{Appends, GrowsBy, AnswersMany, IsntDone};
+ghost use Rattle.flume.specs.ManyReceiveCalls.{Appends, AnswersMany, IsntDone};
 ghost use Rattle.flume.specs.ManyReceiveSteps.{ReceivesBatch, FindsNone, ReceivesMany};
-ghost use Rattle.flume.specs.LockedTurns.{HasDone};
+ghost use Rattle.flume.specs.ManyReceiveGates.{many_state, FirstManyOf, TurnAndMoreOf, ReceivesManyOf};
 
 use crate::answers::{receive_answer, try_receive_answer};
 use crate::receiver::Receiver;
@@ -17,7 +17,7 @@ use flume_calls::calls::{
 use flume_calls::gates::{RecvGate, recv_over};
 use flume_core::error::{RecvError, RecvTimeoutError, TryRecvError};
 use flume_deadline::Deadline;
-use flume_keeper::{MessageTurn, NoParty};
+use flume_keeper::{Keeper, MessageTurn, NoParty};
 use flume_model::step::Kind;
 use std::alloc::Allocator;
 use std::mem::replace;
@@ -48,15 +48,7 @@ impl<T: Drop, R: Waits, A: Allocator + Copy> Receiver<T, R, A> {
         ensures no_memory { result ≡ Err TryRecvError.NoMemory
             → vec_capacity buffer.old < vec_len buffer.old + most }
     {
-        if most == 0 {
-            return Ok(0);
-        }
-        let list = replace(buffer, Vec::new(self.shared().alloc));
-        let ManyNext { buffer: list, next } = self
-            .shared()
-            .call_many(&mut NoParty, FirstReceiveMany { buffer: list, most });
-        *buffer = list;
-        try_receive_answer(next)
+        self.try_recv_many_as(&mut NoParty, buffer, most)
     }
 
     /// As `try_recv_many`, but waits for the first message unless `most` is 0. `NoMemory` also if
@@ -80,7 +72,7 @@ impl<T: Drop, R: Waits, A: Allocator + Copy> Receiver<T, R, A> {
         ensures no_memory { result ≡ Err RecvError.NoMemory
             → (vec_capacity buffer.old < vec_len buffer.old + most) ⊎ FindsNone T A }
     {
-        receive_answer(self.recv_many_until(buffer, most, Deadline::Never))
+        receive_answer(self.recv_many_until(&mut NoParty, buffer, most, Deadline::Never))
     }
 
     /// As `recv_many`, waiting up to the deadline, as `recv_deadline` does.
@@ -104,7 +96,7 @@ impl<T: Drop, R: Waits, A: Allocator + Copy> Receiver<T, R, A> {
         ensures no_memory { result ≡ Err RecvTimeoutError.NoMemory
             → (vec_capacity buffer.old < vec_len buffer.old + most) ⊎ FindsNone T A }
     {
-        self.recv_many_until(buffer, most, Deadline::At(deadline))
+        self.recv_many_until(&mut NoParty, buffer, most, Deadline::At(deadline))
     }
 
     /// As `recv_many_deadline`, so long from now, as of `recv_timeout`.
@@ -122,118 +114,173 @@ impl<T: Drop, R: Waits, A: Allocator + Copy> Receiver<T, R, A> {
             → (vec_capacity buffer.old < vec_len buffer.old + most) ⊎ FindsNone T A }
     {
         let deadline = Deadline::after(&self.shared().rt, timeout);
-        self.recv_many_until(buffer, most, deadline)
+        self.recv_many_until(&mut NoParty, buffer, most, deadline)
+    }
+}
+
+impl<T: Drop, R: Waits, A: Allocator + Copy, K: Keeper<T, A>> Receiver<T, R, A, K> {
+    #[inline(always)]
+    pub(crate) fn try_recv_many_as(
+        &self,
+        me: &mut K::Party,
+        buffer: &mut Vec<T, A>,
+        most: usize,
+    ) -> Result<usize, TryRecvError>
+        ensures did { 0 < most → FirstManyOf K.did (many_state me.old most buffer.old)
+            (many_state me.new most buffer.new) (answer.try_receive_as_turn result) }
+        ensures nothing { most ≡ 0 → (me.new ≡ me.old) × (buffer.new ≡ buffer.old) }
+        ensures appended { IfOk result (Appends most buffer.old.items buffer.new.items) }
+        ensures unchanged { OnErr result (buffer.new.items ≡ buffer.old.items) }
+        ensures none { most ≡ 0 → result ≡ Ok 0 }
+        ensures no_memory { result ≡ Err TryRecvError.NoMemory
+            → vec_capacity buffer.old < vec_len buffer.old + most }
+    {
+        if most == 0 {
+            return Ok(0);
+        }
+        try_receive_answer(self.shared().receive_at_once(me, buffer, most))
     }
 
-    fn recv_many_until(
+    pub(crate) fn recv_many_until(
         &self,
+        me: &mut K::Party,
         buffer: &mut Vec<T, A>,
         most: usize,
         deadline: Deadline,
     ) -> Result<usize, RecvTimeoutError>
-        ensures made { 0 < most → ReceivesMany A buffer.old.items buffer.new.items result }
+        ensures did { 0 < most
+            → ReceivesManyOf K.did most me.old buffer.old me.new buffer.new result }
+        ensures nothing { most ≡ 0 → (me.new ≡ me.old) × (buffer.new ≡ buffer.old) }
         ensures appended { IfOk result (Appends most buffer.old.items buffer.new.items) }
         ensures unchanged { OnErr result (buffer.new.items ≡ buffer.old.items) }
         ensures none { most ≡ 0 → result ≡ Ok 0 }
-        ensures no_memory { result ≡ Err RecvTimeoutError.NoMemory
-            → (vec_capacity buffer.old < vec_len buffer.old + most) ⊎ FindsNone T A }
         ensures in_time { deadline ≡ Never → result ≢ Err RecvTimeoutError.Timeout }
     {
         if most == 0 {
             return Ok(0);
         }
-        let list = replace(buffer, Vec::new(self.shared().alloc));
         let mut gate = ManyGate {
             shared: self.shared(),
             deadline,
-            buffer: list,
+            me,
+            buffer,
             most,
         };
-        let answer = recv_over(&self.shared().rt, &mut gate);
-        let ManyGate { buffer: list, .. } = gate;
-        *buffer = list;
-        answer
+        recv_over(&self.shared().rt, &mut gate)
     }
 }
 
-#[derive(Drop)]
-struct ManyGate<'a, T, R: Waits, A: Allocator + Copy> {
-    shared: &'a Shared<T, R, A>,
-    deadline: Deadline,
-    buffer: Vec<T, A>,
-    most: usize,
-    ghost some: { 0 < most },
-}
+impl<T: Drop, R: Waits, A: Allocator + Copy, K: Keeper<T, A>> Shared<T, R, A, K> {
+    #[inline(always)]
+    fn receive_at_once(
+        &self,
+        me: &mut K::Party,
+        buffer: &mut Vec<T, A>,
+        most: usize,
+    ) -> RecvNext<usize>
+        ensures did { FirstManyOf K.did (many_state me.old most buffer.old)
+            (many_state me.new most buffer.new) result }
+    {
+        let list = replace(buffer, Vec::new(self.alloc));
+        let ManyNext { buffer: list, next } = self.call_many(
+            me,
+            FirstReceiveMany { buffer: list, most },
+        );
+        *buffer = list;
+        next
+    }
 
-impl<T: Drop, R: Waits, A: Allocator + Copy> ManyGate<'_, T, R, A> {
     #[cold]
     #[inline(never)]
-    fn receive_and_more<C>(&mut self, turn: C) -> RecvNext<usize>
+    fn receive_and_more<C>(
+        &self,
+        me: &mut K::Party,
+        turn: C,
+        buffer: &mut Vec<T, A>,
+        most: usize,
+    ) -> RecvNext<usize>
     where
         C: MessageTurn<T, Signal<A>, A, Answer = RecvNext<T>> + Drop,
-        requires room { vec_len self.old.buffer < vec_capacity self.old.buffer }
-        ensures deadline { self.new.deadline ≡ self.old.deadline }
-        ensures most { self.new.most ≡ self.old.most }
+        requires some { 0 < most }
+        requires room { vec_len buffer.old < vec_capacity buffer.old }
         ensures answers { AnswersMany (C.answers turn) result }
-        ensures made { AnswersMany (HasDone A (C.does turn)) result }
-        ensures grows { GrowsBy self.old.most self.old.buffer.items self.new.buffer.items result }
-        ensures room { IsntDone result → vec_len self.new.buffer < vec_capacity self.new.buffer }
+        ensures did { TurnAndMoreOf K.did (C.makes turn) (many_state me.old most buffer.old)
+            (many_state me.new most buffer.new) result }
+        ensures room { IsntDone result → vec_len buffer.new < vec_capacity buffer.new }
     {
-        let buffer = replace(&mut self.buffer, Vec::new(self.shared.alloc));
-        let more = self.most - 1;
-        let ManyNext { buffer, next } = self
-            .shared
-            .call_many(&mut NoParty, ReceiveAndMore { turn, buffer, more });
-        self.buffer = buffer;
+        let list = replace(buffer, Vec::new(self.alloc));
+        let more = most - 1;
+        let ManyNext { buffer: list, next } = self.call_many(
+            me,
+            ReceiveAndMore {
+                turn,
+                buffer: list,
+                more,
+            },
+        );
+        *buffer = list;
         next
     }
 }
 
-impl<T: Drop, R: Waits, A: Allocator + Copy> RecvGate<usize> for ManyGate<'_, T, R, A> {
-    ghost use Rattle.flume_calls.specs.ReceiveTurns as receive;
-    ghost use Rattle.flume_model.specs.declared.step.Kind.TheVariants.{Block};
-    ghost use Rattle.flume_model.specs.declared.step.Step.TheVariants.{Recv};
-    ghost use Rattle.flume.specs.ManyReceiveSteps.{LacksRoom, MakesMany};
+#[derive(Drop)]
+struct ManyGate<'a, T, R: Waits, A: Allocator + Copy, K: Keeper<T, A>> {
+    shared: &'a Shared<T, R, A, K>,
+    deadline: Deadline,
+    me: &'a mut K::Party,
+    buffer: &'a mut Vec<T, A>,
+    most: usize,
+    ghost some: { 0 < most },
+}
+
+impl<T, R, A, K> RecvGate<usize> for ManyGate<'_, T, R, A, K>
+where
+    T: Drop,
+    R: Waits,
+    A: Allocator + Copy,
+    K: Keeper<T, A>,
+{
+    ghost use Rattle.flume.specs.GateSteps.{MakesWaiter, WaitsUpTo};
+    ghost use Rattle.flume.specs.ManyReceiveGates.{ParkManyOf, AgainManyOf, SameState};
 
     type Waiter = Arc<Parker, A>;
 
     type Signal = Signal<A>;
 
-    ghost first_turn = { λ old new next.
-        (new.deadline ≡ old.deadline) × (new.most ≡ old.most) × receive.IsFirstAnswer next
-        × GrowsBy old.most old.buffer.items new.buffer.items next
-        × ReceivesBatch A old.buffer.items new.buffer.items next
-        × LacksRoom old.buffer old.most next };
+    ghost first_turn = { λ old new next. (new.deadline ≡ old.deadline)
+        × (new.me.ghost_name ≡ old.me.ghost_name)
+        × (new.buffer.ghost_name ≡ old.buffer.ghost_name)
+        × FirstManyOf K.did (many_state old.me.now old.most old.buffer.now)
+        (many_state new.me.now new.most new.buffer.now) next };
 
-    ghost makes = { λ old new _. (new.deadline ≡ old.deadline) × (new.most ≡ old.most)
-        × (new.buffer.items ≡ old.buffer.items) };
+    ghost makes = { λ old new made. MakesWaiter old.deadline new.deadline made
+        × (new.me.ghost_name ≡ old.me.ghost_name)
+        × (new.buffer.ghost_name ≡ old.buffer.ghost_name)
+        × SameState (many_state old.me.now old.most old.buffer.now)
+        (many_state new.me.now new.most new.buffer.now) made };
 
-    ghost parking_turn = { λ old new next.
-        (new.deadline ≡ old.deadline) × (new.most ≡ old.most) × receive.IsParkingAnswer next
-        × GrowsBy old.most old.buffer.items new.buffer.items next
-        × MakesMany {T = T} A (Recv Block) receive.after_recv next };
+    ghost parking_turn = { λ old new next. (new.deadline ≡ old.deadline)
+        × (new.me.ghost_name ≡ old.me.ghost_name)
+        × (new.buffer.ghost_name ≡ old.buffer.ghost_name)
+        × ParkManyOf K.did (many_state old.me.now old.most old.buffer.now)
+        (many_state new.me.now new.most new.buffer.now) next };
 
-    ghost parked_turn = { λ old ticket last new next.
-        (new.deadline ≡ old.deadline) × (new.most ≡ old.most)
-        × receive.IsParkedAnswer ticket last next × receive.HadMemory next
-        × GrowsBy old.most old.buffer.items new.buffer.items next
-        × MakesMany {T = T} A (receive.step_of_parked_receive ticket last)
-        (receive.after_parked_receive ticket last) next };
+    ghost parked_turn = { λ old ticket last new next. (new.deadline ≡ old.deadline)
+        × (new.me.ghost_name ≡ old.me.ghost_name)
+        × (new.buffer.ghost_name ≡ old.buffer.ghost_name)
+        × AgainManyOf K.did (many_state old.me.now old.most old.buffer.now) ticket last
+        (many_state new.me.now new.most new.buffer.now) next };
 
-    ghost waits = { λ old new expired.
-        (new.deadline ≡ old.deadline) × (new.most ≡ old.most)
-        × (new.buffer.items ≡ old.buffer.items) × (expired ≡ true → old.deadline ≢ Never) };
+    ghost waits = { λ old new expired. WaitsUpTo old.deadline new.deadline expired
+        × (new.me.ghost_name ≡ old.me.ghost_name)
+        × (new.buffer.ghost_name ≡ old.buffer.ghost_name)
+        × SameState (many_state old.me.now old.most old.buffer.now)
+        (many_state new.me.now new.most new.buffer.now) expired };
 
-    ghost can_park = { λ gate. vec_len gate.buffer < vec_capacity gate.buffer };
+    ghost can_park = { λ gate. vec_len gate.buffer.now < vec_capacity gate.buffer.now };
 
     fn first(&mut self) -> RecvNext<usize> {
-        let buffer = replace(&mut self.buffer, Vec::new(self.shared.alloc));
-        let most = self.most;
-        let ManyNext { buffer, next } = self
-            .shared
-            .call_many(&mut NoParty, FirstReceiveMany { buffer, most });
-        self.buffer = buffer;
-        next
+        self.shared.receive_at_once(self.me, self.buffer, self.most)
     }
 
     // With room for one message, so that the parked call can always take what it is woken for.
@@ -243,13 +290,22 @@ impl<T: Drop, R: Waits, A: Allocator + Copy> RecvGate<usize> for ManyGate<'_, T,
     }
 
     fn park(&mut self, signal: Signal<A>) -> RecvNext<usize> {
-        let kind = Kind::Block;
-        self.receive_and_more(ParkReceive { kind, signal })
+        let turn = ParkReceive {
+            kind: Kind::Block,
+            signal,
+        };
+        self.shared
+            .receive_and_more(self.me, turn, self.buffer, self.most)
     }
 
     fn again(&mut self, call: RecvCall, last: bool) -> RecvNext<usize> {
-        let signal = None;
-        self.receive_and_more(AgainReceive { call, last, signal })
+        let turn = AgainReceive {
+            call,
+            last,
+            signal: None,
+        };
+        self.shared
+            .receive_and_more(self.me, turn, self.buffer, self.most)
     }
 
     fn wait(&mut self, parker: &Arc<Parker, A>) -> bool {

@@ -13,8 +13,8 @@
 //! me.merge(other);
 //! assert!(rt; rx.settle(&mut me));
 //! ```
-//! What a call does is one function, of these ends and of the others. These have no receives of many
-//! messages, no iterators, futures and selections yet. Clones, drops and queries take no party.
+//! What a call does is one function, of these ends and of the others. Iterators and futures own their
+//! party. There are no sinks, streams and selections yet. Clones, drops and queries take no party.
 ghost use Rattle.std.specs.Prelude.{◌≡◌, ◌≢◌, ◌<◌, [], IfOk, Err};
 ghost use Rattle.flume_model.specs.declared.step.Step.TheVariants.{TrySend, TryRecv, Drain};
 ghost use Rattle.flume_calls.specs.ReceiveTurns.{after_try_recv};
@@ -29,6 +29,7 @@ ghost use Rattle.flume.specs.CallSteps as answer;
 ghost use Rattle.flume.specs.GateSteps.{Receives, Sends};
 ghost use Rattle.flume.specs.Iterators.{after_drain};
 
+mod recv_many;
 mod send_many;
 
 use crate::builder::Builder;
