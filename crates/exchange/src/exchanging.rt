@@ -47,8 +47,8 @@ fn receive_both<J: ChannelName + Send + Sync, R: Runtime>(
     let other = rx.clone()?;
     let (a, b) = join(
         &rt,
-        || receive_all(rt, alloc, rx, a),
-        || receive_all(rt, alloc, other, b),
+        || receive_all(alloc, rx, a),
+        || receive_all(alloc, other, b),
     );
     Ok((a?, b?))
 }

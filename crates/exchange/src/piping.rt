@@ -59,7 +59,7 @@ where
     };
     let collector = right.split_off(1);
     let (sent, halved) = send_halves(rt, tx, sender, halver, numbers)?;
-    let collected = receive_all(rt, alloc, from, collector)?;
+    let collected = receive_all(alloc, from, collector)?;
     left.merge(sent);
     left.merge(halved.reader);
     right.merge(halved.writer);

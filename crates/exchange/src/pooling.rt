@@ -106,7 +106,7 @@ where
     };
     let collector = right.split_off(1);
     let ran = run(rt, tx, sender, first, second, numbers)?;
-    let collected = receive_all(rt, alloc, from, collector)?;
+    let collected = receive_all(alloc, from, collector)?;
     left.merge(ran.sender);
     left.merge(ran.first.reader);
     left.merge(ran.second.reader);

@@ -50,22 +50,20 @@ pub fn send_all<R: Waits, J: ChannelName>(
 
 /// Receives until all senders are dropped, and nothing is left.
 pub fn receive_all<R: Waits, J: ChannelName>(
-    rt: R,
     alloc: Global,
     rx: TracedReceiver<u64, R, J>,
-    mut me: ChannelParty<u64, J>,
+    me: ChannelParty<u64, J>,
 ) -> io::Result<Received<R, J>>
     ensures got { IfOk result (λ r. HasMadeCalls me r.me [] r.items.items) }
 {
     let mut items = Vec::new(alloc);
-    for _ in rt.forever() {
-        match rx.recv(&mut me) {
-            Ok(item) => items.push(item)?,
-            Err(RecvError::Disconnected) => return Ok(Received { rx, me, items }),
-            Err(error) => return Err(error.into()),
-        }
+    let mut messages = rx.iter(me);
+    while let Some(item) = messages.next() {
+        items.push(item)?;
     }
-    unreachable!()
+    messages.ended()?;
+    let me = messages.into_party();
+    Ok(Received { rx, me, items })
 }
 
 /// Sends half of each number that it receives, until all senders of those are dropped.

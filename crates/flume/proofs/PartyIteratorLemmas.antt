@@ -2,9 +2,6 @@
 use Rattle.std.proofs.Common.{◌≡◌, ◌+◌, true, false, [], Option, None, option_to_list, Result, Ok, Err, refl, sym, ap, ◌∙◌, subst}
 use Rattle.std.specs.Result.{result_ok}
 use Rattle.flume_core.specs.declared.error.RecvTimeoutError.{RecvTimeoutError}
-use Rattle.flume_core.specs.declared.error.RecvTimeoutError.TheVariants.{Timeout}
-use Rattle.flume_party.specs.Parties.{PartyState}
-use Rattle.flume_actions.specs.Actions.{Action}
 use Rattle.flume_actions.specs.Calls.{HasCalled, HasReceived, got_by}
 use Rattle.flume_actions.specs.Callers.{HasMadeCalls}
 use Rattle.flume_actions.proofs.CallerLemmas.{no_call, and_call}

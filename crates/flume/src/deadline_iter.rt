@@ -89,7 +89,7 @@ impl<T: Drop, R: Waits, A: Allocator + Copy> Receiver<T, R, A> {
 }
 
 impl<T: Drop, R: Waits, A: Allocator + Copy, J: ChannelName> Receiver<T, R, A, Traced<T, A, J>> {
-    /// As of a receiver without a trace. The iterator has the party.
+    /// As of a receiver without a trace. The iterator has the party, as that of `iter`.
     pub fn iter_deadline(
         &self,
         me: ChannelParty<T, J, A>,
@@ -100,7 +100,7 @@ impl<T: Drop, R: Waits, A: Allocator + Copy, J: ChannelName> Receiver<T, R, A, T
         DeadlineIter::new(self, me, Deadline::At(deadline))
     }
 
-    /// As of a receiver without a trace. The iterator has the party.
+    /// As of a receiver without a trace. The iterator has the party, as that of `iter`.
     pub fn iter_timeout(
         &self,
         me: ChannelParty<T, J, A>,
@@ -126,6 +126,7 @@ impl<'a, T: Drop, R: Waits, A: Allocator + Copy, K: Keeper<T, A>> DeadlineIter<'
         }
     }
 
+    #[inline(always)]
     fn next_as(&mut self) -> Option<T>
         ensures next { IsNextInTime A self.old result self.new }
         ensures did { ReceivesItemUntil (ReceivesOf K.did) self.old result self.new }
@@ -220,12 +221,11 @@ impl<'a, T: Drop, R: Waits, A: Allocator + Copy, J: ChannelName> DeadlineIter<
     A,
     Traced<T, A, J>,
 > {
-    /// As of an `Iter`.
+    /// As `Iter::into_party`.
     pub fn into_party(self) -> ChannelParty<T, J, A>
         ensures party { result ≡ self.entry.party }
     {
-        let Self { me, .. } = self;
-        me
+        self.me
     }
 }
 

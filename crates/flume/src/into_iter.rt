@@ -107,16 +107,11 @@ impl<T: Drop, R: Waits, A: Allocator + Copy, J: ChannelName> Iterator
 }
 
 impl<T: Drop, R: Waits, A: Allocator + Copy, J: ChannelName> IntoIter<T, R, A, Traced<T, A, J>> {
-    /// As of an `Iter`. The receiver is dropped.
+    /// As `Iter::into_party`. Drops the receiver.
     pub fn into_party(self) -> ChannelParty<T, J, A>
         ensures party { result ≡ self.party }
     {
-        let Self {
-            receiver: _,
-            progress: _,
-            me,
-        } = self;
-        me
+        self.me
     }
 }
 
@@ -139,7 +134,7 @@ impl<T: Drop, R: Waits, A: Allocator + Copy> IntoIterator for Receiver<T, R, A> 
 }
 
 impl<T: Drop, R: Waits, A: Allocator + Copy, J: ChannelName> Receiver<T, R, A, Traced<T, A, J>> {
-    /// As `iter`, with the receiver in it. `IntoIterator` has no place for a party.
+    /// As `iter`, with the receiver in it. `IntoIterator` couldn't take the party.
     pub fn into_iter(self, me: ChannelParty<T, J, A>) -> IntoIter<T, R, A, Traced<T, A, J>>
         ensures new { result ≡ new_iter_by me self }
     {

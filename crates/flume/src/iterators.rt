@@ -131,16 +131,21 @@ impl<'a, T: Drop, R: Waits, A: Allocator + Copy, J: ChannelName> Iter<
     A,
     Traced<T, A, J>,
 > {
-    /// The party, with what it received.
+    /// The party, with what it received. To prove what that is, loop by `while let`: of an iterator
+    /// that a `for` goes over `by_ref`, nothing is known after the loop.
+    /// ```
+    /// let channel = UnopenedChannel::unbounded(1);
+    /// let (tx, rx, mut me) = flume::on(rt).traced::<u64, Brand>(channel)?;
+    /// tx.send(&mut me, 7)?;
+    /// let mut messages = rx.iter(me);
+    /// assert_eq!(rt; messages.next(), Some(7));
+    /// let mut me = messages.into_party();
+    /// assert!(rt; rx.settle(&mut me));
+    /// ```
     pub fn into_party(self) -> ChannelParty<T, J, A>
         ensures party { result ≡ self.entry.party }
     {
-        let Self {
-            receiver: _,
-            progress: _,
-            me,
-        } = self;
-        me
+        self.me
     }
 }
 
@@ -171,7 +176,7 @@ impl<T: Drop, R: Waits, A: Allocator + Copy, J: ChannelName> Receiver<T, R, A, T
         Iter::new(self, me)
     }
 
-    /// As of a receiver without a trace. The iterator has the party.
+    /// As of a receiver without a trace. The iterator has the party, as that of `iter`.
     pub fn try_iter(&self, me: ChannelParty<T, J, A>) -> TryIter<'_, T, R, A, Traced<T, A, J>>
         ensures new { result ≡ new_iter_by me self.now }
     {
@@ -257,16 +262,11 @@ impl<'a, T: Drop, R: Waits, A: Allocator + Copy, J: ChannelName> TryIter<
     A,
     Traced<T, A, J>,
 > {
-    /// As of an `Iter`.
+    /// As `Iter::into_party`.
     pub fn into_party(self) -> ChannelParty<T, J, A>
         ensures party { result ≡ self.entry.party }
     {
-        let Self {
-            receiver: _,
-            progress: _,
-            me,
-        } = self;
-        me
+        self.me
     }
 }
 

@@ -41,6 +41,7 @@ impl Progress {
         self.calls_left -= 1;
     }
 
+    #[inline(always)]
     pub(crate) fn receive<T: Drop, R: Waits, A: Allocator + Copy, K: Keeper<T, A>>(
         &mut self,
         receiver: &Receiver<T, R, A, K>,
@@ -54,6 +55,7 @@ impl Progress {
         self.item(receiver.recv_as(me))
     }
 
+    #[inline(always)]
     pub(crate) fn try_receive<T: Drop, R: Waits, A: Allocator + Copy, K: Keeper<T, A>>(
         &mut self,
         receiver: &Receiver<T, R, A, K>,
