@@ -54,3 +54,14 @@ module _ {T A N : Type 0} where
     reachable = FirstStep turn.stepped NoSteps;
     answered = record { reply = turn.reply; is = λ i. (step, turn.reply) ∷ []; answered = turn.answered };
   }
+
+module _ {T S A M N : Type 0} {step : Step T} {table : Reply T A → N → Type 0}
+    {old new : State T S} {next : N} {makes : List (Step T × Reply T A) → M → Type 0} {answer : M} where
+  -- a turn of one step is a batch of whichever table has this step and its reply
+  abbrev pub with_table : (turn : Turned step table old new next)
+      → makes ((step, turn.reply) ∷ []) answer → IsBatch makes old new answer
+  with_table turn answered = record {
+    made = (step, turn.reply) ∷ [];
+    reachable = FirstStep turn.stepped NoSteps;
+    answered = answered;
+  }

@@ -1,8 +1,11 @@
 -- A receive that is polled: which step each poll makes, and what it answers.
 use Rattle.std.specs.Prelude.{◌≡◌, ℕ, Bool, true, false, Option, Some, None, Result, Ok, Err}
-use Rattle.std.specs.Prelude.{is_some}
+use Rattle.std.specs.Prelude.{is_some, List, [], ◌∷◌}
+use mathlib.Core.Path.{sym, subst, ◌∙◌}
 use Rattle.flume_model.specs.declared.step.Kind.{Kind}
+use Rattle.flume_model.specs.declared.step.Step.{Step}
 use Rattle.flume_model.specs.declared.step.Step.TheVariants.{TryRecv, Recv, Poll}
+use Rattle.flume_model.specs.declared.step.Reply.{Reply}
 use Rattle.flume_state.specs.State.{State}
 use Rattle.flume_core.specs.Waiting.{FindsNothing}
 use Rattle.flume_core.specs.declared.error.RecvError.{RecvError}
@@ -12,6 +15,7 @@ use Rattle.flume_calls.specs.declared.calls.receive.RecvNext.{RecvNext}
 use Rattle.flume_calls.specs.declared.calls.receive.RecvNext.TheVariants.{Done, NeedSignal, Park}
 use Rattle.flume_calls.specs.declared.calls.receive.RecvNext.TheVariants.{Refused}
 use Rattle.flume_calls.specs.Turns.{Turned}
+use Rattle.flume_calls.specs.Batches.{StepsBetween, NoSteps, IsBatch, with_table}
 use Rattle.flume_calls.specs.ReceiveTurns.{after_try_recv, after_recv, after_poll}
 use Rattle.flume_calls.specs.ReceiveTurns.{IsFirstAnswer, IsParkingAnswer, IsPollAnswer, HadMemory}
 use Rattle.flume_calls.specs.ReceiveOutcomes.{FirstReceiveOutcome, ParkReceiveOutcome}
@@ -65,3 +69,45 @@ module _ {T S : Type 0} where
         → AgainReceiveOutcome ticket false signal old new next
         → finishes_receive (is_some signal) next after answer
         → ReceivePoll A kind call signal old new after answer
+
+module _ {T A : Type 0} where
+  -- the step of such a poll with its reply, or none, by the ticket before it
+  pub data ReceivePollSteps (kind : Kind) (after : Option ℕ) (answer : Option (Result T RecvError))
+      : Option ℕ → List (Step T × Reply T A) → Type 0 where
+    MakesTry : {reply : Reply T A} (next : RecvNext T) → after_try_recv reply next
+        → finishes_receive false next after answer
+        → ReceivePollSteps kind after answer None ((TryRecv, reply) ∷ [])
+    MakesRecv : {reply : Reply T A} (next : RecvNext T) → after_recv reply next
+        → finishes_receive true next after answer
+        → ReceivePollSteps kind after answer None ((Recv kind, reply) ∷ [])
+    MakesNone : {ticket : ℕ} → after ≡ Some ticket → answer ≡ Some (Err NoMemory)
+        → ReceivePollSteps kind after answer (Some ticket) []
+    MakesPoll : {reply : Reply T A} {ticket : ℕ} (next : RecvNext T) (signalled : Bool)
+        → after_poll ticket reply next → IsPollAnswer ticket next
+        → finishes_receive signalled next after answer
+        → ReceivePollSteps kind after answer (Some ticket) ((Poll ticket, reply) ∷ [])
+
+  -- each poll is a batch of them
+  abbrev pub receive_poll_leads : {S : Type 0} {kind : Kind} {call after : Option ℕ}
+      {signal : Option S} {old new : State T S} {answer : Option (Result T RecvError)}
+      → ReceivePoll A kind call signal old new after answer
+      → IsBatch (λ made answer. ReceivePollSteps kind after answer call made) old new answer
+  receive_poll_leads {kind = kind} {after = after} {answer = answer}
+      (Tries next is none turn first served outcome finishes) = with_table turn
+      (subst (λ call. ReceivePollSteps kind after answer call ((TryRecv, turn.reply) ∷ []))
+      (sym is) (MakesTry next turn.answered finishes))
+  receive_poll_leads {kind = kind} {after = after} {answer = answer}
+      (Parks next given is some turn parking outcome finishes) = with_table turn
+      (subst (λ call. ReceivePollSteps kind after answer call ((Recv kind, turn.reply) ∷ []))
+      (sym is) (MakesRecv next turn.answered finishes))
+  receive_poll_leads {kind = kind} {after = after} {old = old} {answer = answer}
+      (Unsignalled ticket is none nothing same kept said) = record {
+        made = [];
+        reachable = subst (λ new. StepsBetween {A = A} old [] new) (sym same) NoSteps;
+        answered = subst (λ call. ReceivePollSteps kind after answer call []) (sym is)
+            (MakesNone (kept ∙ is) said);
+      }
+  receive_poll_leads {kind = kind} {after = after} {answer = answer}
+      (Asks next ticket is signalled turn later served outcome finishes) = with_table turn
+      (subst (λ call. ReceivePollSteps kind after answer call ((Poll ticket, turn.reply) ∷ []))
+      (sym is) (MakesPoll next _ turn.answered later finishes))

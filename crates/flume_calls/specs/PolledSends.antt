@@ -1,6 +1,10 @@
 -- A send that is polled: which step each poll makes, and what it answers.
 use Rattle.std.specs.Prelude.{◌≡◌, ℕ, Bool, true, false, Option, Some, None, Result, Ok, Err}
+use Rattle.std.specs.Prelude.{List, [], ◌∷◌}
+use mathlib.Core.Path.{sym, subst}
+use Rattle.flume_model.specs.declared.step.Step.{Step}
 use Rattle.flume_model.specs.declared.step.Step.TheVariants.{TrySend, Send}
+use Rattle.flume_model.specs.declared.step.Reply.{Reply}
 use Rattle.flume_state.specs.State.{State}
 use Rattle.flume_core.specs.Waiting.{FindsNoRoom, IsHeldBack}
 use Rattle.flume_core.specs.declared.error.SendError.{SendError}
@@ -11,6 +15,7 @@ use Rattle.flume_calls.specs.declared.calls.send.SendNext.TheVariants.{Done, Nee
 use Rattle.flume_calls.specs.declared.polled.send.PolledSend.{PolledSend}
 use Rattle.flume_calls.specs.declared.polled.send.PolledSend.TheVariants.{Unsent, Parked, Finished}
 use Rattle.flume_calls.specs.Turns.{Turned}
+use Rattle.flume_calls.specs.Batches.{StepsBetween, NoSteps, IsBatch, with_table}
 use Rattle.flume_calls.specs.SendTurns.{after_try_send, after_send, after_parked_send}
 use Rattle.flume_calls.specs.SendTurns.{step_of_parked_send, IsFirstAnswer, IsParkingAnswer}
 use Rattle.flume_calls.specs.SendTurns.{IsParkedAnswer}
@@ -67,3 +72,45 @@ module _ {T S : Type 0} where
         old new next
         → IsParkedAnswer ticket last next → AgainSendOutcome A ticket last signal old new next
         → finishes_send next after answer → SendPoll A send signal old new after answer
+
+module _ {T A : Type 0} where
+  -- the step of such a poll with its reply, or none, by the send before it
+  pub data SendPollSteps (after : PolledSend T) (answer : Option (Result (Unit {0}) (SendError T)))
+      : PolledSend T → List (Step T × Reply T A) → Type 0 where
+    MakesNone : after ≡ Finished → answer ≡ Some (Ok tt) → SendPollSteps after answer Finished []
+    MakesTry : {message : T} {reply : Reply T A} (next : SendNext T) → after_try_send reply next
+        → finishes_send next after answer
+        → SendPollSteps after answer (Unsent message) ((TrySend message, reply) ∷ [])
+    MakesSend : {message : T} {reply : Reply T A} (next : SendNext T) → after_send reply next
+        → finishes_send next after answer
+        → SendPollSteps after answer (Unsent message) ((Send message, reply) ∷ [])
+    MakesPoll : {ticket : ℕ} {reply : Reply T A} (next : SendNext T) (last : Bool)
+        → after_parked_send ticket last reply next → IsParkedAnswer ticket last next
+        → finishes_send next after answer
+        → SendPollSteps after answer (Parked ticket) ((step_of_parked_send ticket last, reply) ∷ [])
+
+  -- each poll is a batch of them
+  abbrev pub send_poll_leads : {S : Type 0} {send after : PolledSend T} {signal : Option S}
+      {old new : State T S} {answer : Option (Result (Unit {0}) (SendError T))}
+      → SendPoll A send signal old new after answer
+      → IsBatch (λ made answer. SendPollSteps after answer send made) old new answer
+  send_poll_leads {after = after} {old = old} {answer = answer}
+      (AlreadyFinished is same finished ok) = record {
+        made = [];
+        reachable = subst (λ new. StepsBetween {A = A} old [] new) (sym same) NoSteps;
+        answered = subst (λ send. SendPollSteps after answer send []) (sym is)
+            (MakesNone finished ok);
+      }
+  send_poll_leads {after = after} {answer = answer}
+      (Tries message next is none turn first outcome finishes) = with_table turn
+      (subst (λ send. SendPollSteps after answer send ((TrySend message, turn.reply) ∷ []))
+      (sym is) (MakesTry next turn.answered finishes))
+  send_poll_leads {after = after} {answer = answer}
+      (Parks message next given is some turn parking outcome finishes) = with_table turn
+      (subst (λ send. SendPollSteps after answer send ((Send message, turn.reply) ∷ []))
+      (sym is) (MakesSend next turn.answered finishes))
+  send_poll_leads {after = after} {answer = answer}
+      (Asks last ticket next is held signalled turn again outcome finishes) = with_table turn
+      (subst (λ send. SendPollSteps after answer send
+      ((step_of_parked_send ticket last, turn.reply) ∷ []))
+      (sym is) (MakesPoll next last turn.answered again finishes))

@@ -1,6 +1,9 @@
 //! A call that is polled: a future, a sink or a stream without its lock and its waker.
-ghost use Rattle.std.specs.Prelude.{◌≡◌, ◌↔◌, ℕ, IsTrue, Option, None, IsSome};
+ghost use Rattle.std.specs.Prelude.{◌≡◌, ◌↔◌, ℕ, IsTrue, List, Option, None, IsSome};
+ghost use Rattle.flume_model.specs.declared.step.Step.{Step};
+ghost use Rattle.flume_model.specs.declared.step.Reply.{Reply};
 ghost use Rattle.flume_state.specs.State.{State};
+ghost use Rattle.flume_calls.specs.Batches.{IsBatch};
 ghost use Rattle.flume_calls.specs.Polls.{AtMostOneStep};
 
 mod receive;
@@ -20,6 +23,13 @@ pub trait Polled<T, S, A: Allocator> {
 
     // The call, the signal that it is given, the channel before and after, the call after.
     ghost polls: { Self → Option S → State T S → State T S → Self → Option Self.Answer → Type 0 };
+
+    // Which steps, with which replies, by the call before, the call after and the answer.
+    ghost makes: { Self → Self → List (Step T × Reply T A) → Option Self.Answer → Type 0 };
+
+    ghost leads: { (old : Self) (signal : Option S) (before after : State T S) (new : Self)
+        (answer : Option Self.Answer) → polls old signal before after new answer
+        → IsBatch (makes old new) before after answer };
 
     ghost parked: { Self → Option ℕ };
 

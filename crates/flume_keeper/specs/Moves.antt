@@ -1,13 +1,22 @@
--- Which turns of one step move messages.
-use Rattle.std.specs.Prelude.{◌≡◌, ℕ, ◌&&◌, Bool, true, false, List, [], ◌∷◌, if◌then◌else◌}
+-- Which turns of one step, and which polls, move messages.
+use Rattle.std.specs.Prelude.{◌≡◌, ℕ, ◌&&◌, Bool, true, false, List, [], ◌∷◌, if◌then◌else◌, Option}
+use Rattle.std.specs.Prelude.{Result}
 use mathlib.Core.Path.{refl, sym, subst}
+use Rattle.flume_model.specs.declared.step.Kind.{Kind}
 use Rattle.flume_model.specs.declared.step.Step.{Step}
 use Rattle.flume_model.specs.declared.step.Reply.{Reply}
 use Rattle.flume_party.specs.Owners.{AreOwned, AreUnowned}
+use Rattle.flume_core.specs.declared.error.SendError.{SendError}
+use Rattle.flume_core.specs.declared.error.RecvError.{RecvError}
 use Rattle.flume_calls.specs.Batches.{IsOneStep}
 use Rattle.flume_calls.specs.Singles.{end_step, count_query_step, flag_query_step}
 use Rattle.flume_calls.specs.SendTurns.{step_of_parked_send}
 use Rattle.flume_calls.specs.ReceiveTurns.{step_of_parked_receive}
+use Rattle.flume_calls.specs.PolledSends as send
+use Rattle.flume_calls.specs.PolledSends.{SendPollSteps}
+use Rattle.flume_calls.specs.PolledReceives as receive
+use Rattle.flume_calls.specs.PolledReceives.{ReceivePollSteps}
+use Rattle.flume_calls.specs.declared.polled.send.PolledSend.{PolledSend}
 use Rattle.flume_calls.specs.declared.single.EndStep.{EndStep}
 use Rattle.flume_calls.specs.declared.single.EndStep.TheVariants as end
 use Rattle.flume_calls.specs.declared.single.CountQuery.{CountQuery}
@@ -70,3 +79,23 @@ module _ (T : Type 0) where
   flag_query_moves_none flag.IsEmpty = refl
   flag_query_moves_none flag.IsFull = refl
   flag_query_moves_none flag.IsDisconnected = refl
+
+module _ {T A : Type 0} where
+  -- a poll of a send
+  pub send_poll_moves : {send after : PolledSend T} {made : List (Action T A)}
+      {answer : Option (Result (Unit {0}) (SendError T))} → SendPollSteps after answer send made
+      → AreOwned is_of_party made
+  send_poll_moves (send.MakesNone finished ok) = refl
+  send_poll_moves (send.MakesTry next answered finishes) = refl
+  send_poll_moves (send.MakesSend next answered finishes) = refl
+  send_poll_moves (send.MakesPoll {ticket = ticket} next last answered again finishes) =
+      λ i. parked_send_moves T ticket last i && true
+
+  -- a poll of a receive
+  pub receive_poll_moves : {kind : Kind} {call after : Option ℕ} {made : List (Action T A)}
+      {answer : Option (Result T RecvError)} → ReceivePollSteps kind after answer call made
+      → AreOwned is_of_party made
+  receive_poll_moves (receive.MakesTry next answered finishes) = refl
+  receive_poll_moves (receive.MakesRecv next answered finishes) = refl
+  receive_poll_moves (receive.MakesNone kept said) = refl
+  receive_poll_moves (receive.MakesPoll next signalled answered again finishes) = refl

@@ -1,16 +1,16 @@
 //! A channel and its keeper.
-ghost use Rattle.std.specs.Prelude.{◌≡◌, []};
+ghost use Rattle.std.specs.Prelude.{◌≡◌, [], IsSome, None};
 ghost use Rattle.flume_model.specs.Log.{opens};
 ghost use Rattle.flume_state.specs.State.{State, new_state};
 ghost use Rattle.flume_calls.specs.AtRest.{IsCallAtRest};
 ghost use Rattle.flume_calls.specs.NoCallWaits.{NoCallWaits};
-ghost use Rattle.flume_calls.specs.Polls.{AtMostOneStep};
+ghost use Rattle.flume_calls.specs.Polls.{AtMostOneStep, IsPollCall};
 ghost use Rattle.flume_core.specs.Represents.{IsReachable, Represents};
 ghost use Rattle.flume_keeper.specs.Keeps.{Did, LogsOf};
 
 use crate::keeper::{Keeper, Made};
 use crate::no_trace::NoTrace;
-use crate::turns::{EndTurn, MessageTurn};
+use crate::turns::{EndTurn, MessagePoll, MessageTurn};
 use flume_calls::due::Bell;
 use flume_calls::locked::Locked;
 use std::alloc::Allocator;
@@ -66,11 +66,11 @@ impl<T: Drop, S: Drop, A: Allocator + Copy, K: Keeper<T, A>> Kept<T, S, A, K> {
         ensures did { Did K.did (C.makes turn) party.old result party.new }
     {
         self.locked.facts();
-        let made = Snapshot::of(&turn);
+        let by = Snapshot::of(&turn);
         let before = Snapshot::of(&self.locked);
         let answer = self.locked.make(turn, bell);
         let made = Made {
-            turn: made,
+            by,
             answer: Snapshot::of(&answer),
             before,
             after: Snapshot::of(&self.locked),
@@ -95,11 +95,41 @@ impl<T: Drop, S: Drop, A: Allocator + Copy, K: Keeper<T, A>> Kept<T, S, A, K> {
         ensures did { Did K.did (C.makes turn) party.old result party.new }
     {
         self.locked.facts();
-        let made = Snapshot::of(&turn);
+        let by = Snapshot::of(&turn);
         let before = Snapshot::of(&self.locked);
         let answer = self.locked.make_without_bell(turn);
         let made = Made {
-            turn: made,
+            by,
+            answer: Snapshot::of(&answer),
+            before,
+            after: Snapshot::of(&self.locked),
+        };
+        self.keeper.keep(party, &made);
+        answer
+    }
+
+    /// Polls the party's call, and rings once for each ticket that is due then.
+    #[inline(always)]
+    pub fn poll<P: MessagePoll<T, S, A>, B: Bell<S>>(
+        &mut self,
+        party: &mut K::Party,
+        call: &mut P,
+        signal: &mut Option<S>,
+        bell: &mut B,
+    ) -> Option<P::Answer>
+        ensures reachable { IsReachable A self.old }
+        ensures call { IsPollCall A B.rings
+            (λ between. P.polls call.old signal.old self.old between call.new result)
+            self.old bell.old self.new bell.new }
+        ensures pending { result ≡ None → IsSome signal.old }
+        ensures did { Did K.did (P.makes call.old call.new) party.old result party.new }
+    {
+        self.locked.facts();
+        let unpolled = Snapshot::of(&*call);
+        let before = Snapshot::of(&self.locked);
+        let answer = self.locked.poll(call, signal, bell);
+        let made = Made {
+            by: (unpolled, Snapshot::of(&*call)),
             answer: Snapshot::of(&answer),
             before,
             after: Snapshot::of(&self.locked),
@@ -121,11 +151,11 @@ impl<T: Drop, S: Drop, A: Allocator + Copy, K: Keeper<T, A>> Kept<T, S, A, K> {
         ensures answers { C.answers turn result }
     {
         self.locked.facts();
-        let made = Snapshot::of(&turn);
+        let by = Snapshot::of(&turn);
         let before = Snapshot::of(&self.locked);
         let answer = self.locked.make(turn, bell);
         let made = Made {
-            turn: made,
+            by,
             answer: Snapshot::of(&answer),
             before,
             after: Snapshot::of(&self.locked),

@@ -11,9 +11,9 @@ mod traced;
 mod turns;
 mod unopened;
 
-pub use keeper::{Keeper, Made};
+pub use keeper::{Keeper, Made, Maker};
 pub use kept::Kept;
 pub use no_trace::{NoParty, NoTrace};
 pub use traced::{ChannelName, ChannelParty, MessageMoves, NamesOf, Traced};
-pub use turns::{EndTurn, MessageTurn};
+pub use turns::{EndTurn, MessagePoll, MessageTurn};
 pub use unopened::UnopenedChannel;

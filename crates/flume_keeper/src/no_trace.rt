@@ -1,8 +1,7 @@
 //! A keeper that keeps nothing.
 ghost use Rattle.flume_keeper.specs.Keeps.{SomeRunGoesOn};
 
-use crate::keeper::{Keeper, Made};
-use crate::turns::{EndTurn, MessageTurn};
+use crate::keeper::{Keeper, Made, Maker};
 use flume_calls::locked::Locked;
 use std::alloc::Allocator;
 
@@ -23,15 +22,12 @@ impl<T, A: Allocator> Keeper<T, A> for NoTrace {
     ghost did = { λ _ steps _. SomeRunGoesOn {T = T} {A = A} steps };
 
     #[inline(always)]
-    fn keep<S, C: MessageTurn<T, S, A>>(
+    fn keep<S, M: Maker<T, S, A>>(
         &mut self,
         _party: &mut NoParty,
-        _turn: &Made<C, C::Answer, Locked<T, S, A>>,
+        _made: &Made<M, M::Answer, Locked<T, S, A>>,
     ) {}
 
     #[inline(always)]
-    fn keep_unowned<S, C: EndTurn<T, S, A>>(
-        &mut self,
-        _turn: &Made<C, C::Answer, Locked<T, S, A>>,
-    ) {}
+    fn keep_unowned<S, M: Maker<T, S, A>>(&mut self, _made: &Made<M, M::Answer, Locked<T, S, A>>) {}
 }

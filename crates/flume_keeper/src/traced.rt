@@ -2,8 +2,7 @@
 ghost use Rattle.std.specs.Prelude.{◌≡◌, ◌<◌, []};
 ghost use Rattle.flume_party.specs.Parties.{party_of};
 
-use crate::keeper::{Keeper, Made};
-use crate::turns::{EndTurn, MessageTurn};
+use crate::keeper::{Keeper, Made, Maker};
 use crate::unopened::UnopenedChannel;
 use flume_calls::locked::Locked;
 use flume_model::step::{Reply, Step};
@@ -56,36 +55,20 @@ impl<T, A: Allocator> Ownership<(Step<T>, Reply<T, A>)> for MessageMoves {
 /// One who sends and receives, and knows what it did.
 pub type ChannelParty<T, J, A = Global> = Party<(Step<T>, Reply<T, A>), NamesOf<J>, MessageMoves>;
 
-/// The steps of the turn are recorded, and lead to the channel after it.
-struct TurnMade<T, S, A, J> {
+/// The steps of the turn or the poll are recorded, and lead to the channel after it.
+struct StepsMade<T, S, A, J> {
     of: PhantomData<(T, S, A, J)>,
 }
 
-impl<T, S, A: Allocator, J: ChannelName, C: MessageTurn<T, S, A>> Records<
-    Made<C, C::Answer, Locked<T, S, A>>,
+impl<T, S, A: Allocator, J: ChannelName, M: Maker<T, S, A>> Records<
+    Made<M, M::Answer, Locked<T, S, A>>,
     (Step<T>, Reply<T, A>),
-> for TurnMade<T, S, A, J> {
+> for StepsMade<T, S, A, J> {
     ghost use Rattle.std.specs.Prelude.{◌++◌};
     ghost use Rattle.flume_keeper.specs.Keeps.{LeadsTo};
 
-    ghost may = { λ turn before steps. C.makes turn.turn.value steps turn.answer.value
-        × LeadsTo J.identity.capacity (before ++ steps) turn.after.value };
-}
-
-/// The same of a turn of nobody.
-struct EndTurnMade<T, S, A, J> {
-    of: PhantomData<(T, S, A, J)>,
-}
-
-impl<T, S, A: Allocator, J: ChannelName, C: EndTurn<T, S, A>> Records<
-    Made<C, C::Answer, Locked<T, S, A>>,
-    (Step<T>, Reply<T, A>),
-> for EndTurnMade<T, S, A, J> {
-    ghost use Rattle.std.specs.Prelude.{◌++◌};
-    ghost use Rattle.flume_keeper.specs.Keeps.{LeadsTo};
-
-    ghost may = { λ turn before steps. C.makes turn.turn.value steps turn.answer.value
-        × LeadsTo J.identity.capacity (before ++ steps) turn.after.value };
+    ghost may = { λ made before steps. M.makes made.by steps made.answer.value
+        × LeadsTo J.identity.capacity (before ++ steps) made.after.value };
 }
 
 /// All that was done to the channel. Contracts see a list of actions, the oldest first.
@@ -129,20 +112,20 @@ impl<T, A: Allocator, J: ChannelName> Keeper<T, A> for Traced<T, A, J> {
     ghost did = { λ old steps new. new ≡ and_made old steps };
 
     #[inline(always)]
-    fn keep<S, C: MessageTurn<T, S, A>>(
+    fn keep<S, M: Maker<T, S, A>>(
         &mut self,
         party: &mut ChannelParty<T, J, A>,
-        turn: &Made<C, C::Answer, Locked<T, S, A>>,
+        made: &Made<M, M::Answer, Locked<T, S, A>>,
     ) {
-        party.record::<Made<C, C::Answer, Locked<T, S, A>>, TurnMade<T, S, A, J>>(
+        party.record::<Made<M, M::Answer, Locked<T, S, A>>, StepsMade<T, S, A, J>>(
             &mut self.trace,
-            turn,
+            made,
         );
     }
 
     #[inline(always)]
-    fn keep_unowned<S, C: EndTurn<T, S, A>>(&mut self, turn: &Made<C, C::Answer, Locked<T, S, A>>) {
+    fn keep_unowned<S, M: Maker<T, S, A>>(&mut self, made: &Made<M, M::Answer, Locked<T, S, A>>) {
         self.trace
-            .record_unowned::<Made<C, C::Answer, Locked<T, S, A>>, EndTurnMade<T, S, A, J>>(turn);
+            .record_unowned::<Made<M, M::Answer, Locked<T, S, A>>, StepsMade<T, S, A, J>>(made);
     }
 }

@@ -1,10 +1,11 @@
-//! Which turns are a party's.
+//! Which turns and polls are a party's.
 ghost use Rattle.flume_keeper.specs.Keeps.{MovesMessages, MovesNone};
 
 use flume_calls::calls::{
     AgainReceive, AgainSend, FirstReceive, FirstReceiveMany, FirstSend, MoreReceives, ParkReceive,
     ParkSend, ReceiveAndMore, RecvNext, SendMany,
 };
+use flume_calls::polled::{Polled, PolledReceive, PolledSend};
 use flume_calls::single::{CapacityQuery, CountQuery, DrainQueue, EndStep, FlagQuery, SetCapacity};
 use flume_calls::turn::Turn;
 use std::alloc::Allocator;
@@ -12,6 +13,11 @@ use std::alloc::Allocator;
 /// A turn whose steps send or receive. It is a party's.
 pub trait MessageTurn<T, S, A: Allocator>: Turn<T, S, A> {
     ghost moves: { (turn : Self) → MovesMessages (Self.Turn.makes turn) };
+}
+
+/// A call whose polls send or receive. They are a party's.
+pub trait MessagePoll<T, S, A: Allocator>: Polled<T, S, A> {
+    ghost moves: { (old new : Self) → MovesMessages (Self.Polled.makes old new) };
 }
 
 /// A turn whose steps move no message. It is nobody's.
@@ -94,6 +100,18 @@ where
     ghost use Rattle.flume_keeper.specs.ManyMoves.{more_moves};
 
     ghost moves = { λ turn. more_moves (C.moves turn.turn) };
+}
+
+impl<T: Drop, S: Drop, A: Allocator + Copy> MessagePoll<T, S, A> for PolledSend<T> {
+    ghost use Rattle.flume_keeper.specs.Moves.{send_poll_moves};
+
+    ghost moves = { λ old new made answer made_by. send_poll_moves made_by };
+}
+
+impl<T: Drop, S: Drop, A: Allocator + Copy> MessagePoll<T, S, A> for PolledReceive {
+    ghost use Rattle.flume_keeper.specs.Moves.{receive_poll_moves};
+
+    ghost moves = { λ old new made answer made_by. receive_poll_moves made_by };
 }
 
 impl<T: Drop, S: Drop, A: Allocator + Copy> EndTurn<T, S, A> for EndStep {

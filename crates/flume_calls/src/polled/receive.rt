@@ -4,6 +4,7 @@ ghost use Rattle.std.specs.Option.{option_map};
 ghost use Rattle.flume_core.specs.Waiting.{FindsNothing};
 ghost use Rattle.flume_calls.specs.Polls.{AtMostOneStep};
 ghost use Rattle.flume_calls.specs.PolledReceives.{ReceivePoll, finishes_receive};
+ghost use Rattle.flume_calls.specs.PolledReceives.{ReceivePollSteps, receive_poll_leads};
 
 use super::Polled;
 use crate::calls::{AgainReceive, RecvCall, RecvNext};
@@ -130,6 +131,11 @@ impl<T: Drop, S: Drop, A: Allocator + Copy> Polled<T, S, A> for PolledReceive {
 
     ghost polls = { λ old signal before after new answer. (new.kind ≡ old.kind)
         × ReceivePoll A old.kind old.call signal before after new.call answer };
+
+    ghost makes = { λ old new made answer.
+        ReceivePollSteps old.kind new.call answer old.call made };
+
+    ghost leads = { λ old signal before after new answer polled. receive_poll_leads polled.1 };
 
     #[inline(always)]
     fn ticket(&self) -> Option<u64> {

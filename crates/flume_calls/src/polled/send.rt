@@ -2,6 +2,7 @@
 ghost use Rattle.std.specs.Prelude.{◌≡◌, ◌≢◌, ℕ, Some, None, true, IsSome};
 ghost use Rattle.flume_calls.specs.Polls.{AtMostOneStep};
 ghost use Rattle.flume_calls.specs.PolledSends.{SendPoll, finishes_send, send_waits, ticket_of};
+ghost use Rattle.flume_calls.specs.PolledSends.{SendPollSteps, send_poll_leads};
 
 use super::Polled;
 use crate::calls::{AgainSend, SendCall, SendNext};
@@ -120,6 +121,10 @@ impl<T: Drop, S: Drop, A: Allocator + Copy> Polled<T, S, A> for PolledSend<T> {
 
     ghost polls = { λ old signal before after new answer.
         SendPoll A old signal before after new answer };
+
+    ghost makes = { λ old new made answer. SendPollSteps new answer old made };
+
+    ghost leads = { λ old signal before after new answer polled. send_poll_leads polled };
 
     #[inline(always)]
     fn ticket(&self) -> Option<u64> {

@@ -10,6 +10,6 @@ make_without_bell-answer-requires-clause-one_step g c = rw (c.self.view_is) (λ 
 
 pub keep-requires-clause-made : goal.keep-requires-clause-made
 keep-requires-clause-made g c =
-    rw (c.of-made.ensures, c.of-before.ensures, c.of.ensures, c.of-2.ensures)
+    rw (c.of-by.ensures, c.of-before.ensures, c.of.ensures, c.of-2.ensures)
     (was_made (g.C.Turn.leads c.args.turn _ _ _ c.make_without_bell-answer.ensures.does)
     (λ opening log same. same))

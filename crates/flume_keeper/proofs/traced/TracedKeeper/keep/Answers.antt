@@ -9,6 +9,6 @@ record-requires g c =
       some = (
         made.made,
         (made.answered, leads_on g.J.ChannelName.identity.capacity c.self.inside.trace made (rw c.self.view_is c.requires.fits)),
-        g.met.C.MessageTurn.moves _ _ _ made.answered,
+        c.requires.moves _ _ made.answered,
       );
     }
