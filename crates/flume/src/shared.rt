@@ -16,12 +16,10 @@ use crate::backoff::{Backoff, FIRST_PAUSES, LOCK_TRIES, UNBOUNDED, pause};
 use crate::signal::{Parker, Signal};
 use crate::task::Task;
 use flume_calls::due::Bell;
-use flume_calls::locked::Locked;
-use flume_calls::polled::Polled;
 use flume_calls::single::SetCapacity;
 use flume_core::error::CapacityError;
 use flume_keeper::{
-    ChannelName, ChannelParty, EndTurn, Keeper, Kept, MessageTurn, NoTrace, Traced,
+    ChannelName, ChannelParty, EndTurn, Keeper, Kept, MessagePoll, MessageTurn, NoTrace, Traced,
 };
 use futures::task::Context;
 use std::alloc::{Allocator, Global};
@@ -210,44 +208,45 @@ impl<T: Drop, R: Waits, A: Allocator + Copy, K: Keeper<T, A>> Shared<T, R, A, K>
         let mut guard = self.lock();
         guard.make_unowned(turn, &mut SignalBell { rt: self.rt })
     }
-}
 
-impl<T: Drop, R: Waits, A: Allocator + Copy> Shared<T, R, A> {
     #[inline(always)]
-    pub(crate) fn poll<P: Polled<T, Signal<A>, A>>(
+    pub(crate) fn poll<P: MessagePoll<T, Signal<A>, A>>(
         &self,
+        me: &mut K::Party,
         call: &mut P,
         task: &Task,
         cx: &mut Context<'_>,
     ) -> Option<P::Answer>
         ensures polled { HasPolled A P.polls call.old call.new result }
+        ensures did { Did K.did (P.makes call.old call.new) me.old result me.new }
         ensures registered { result ≡ None → Covers cx.new (λ s. s ≡ task.now.source.id) }
         ensures kept { Keeps cx.old cx.new }
     {
         let mut guard = self.lock();
-        self.poll_locked(&mut guard.locked, call, task, cx)
+        self.poll_locked(&mut guard, me, call, task, cx)
     }
 
     #[inline(always)]
-    pub(crate) fn poll_locked<P: Polled<T, Signal<A>, A>>(
+    pub(crate) fn poll_locked<P: MessagePoll<T, Signal<A>, A>>(
         &self,
-        locked: &mut Locked<T, Signal<A>, A>,
+        kept: &mut Kept<T, Signal<A>, A, K>,
+        me: &mut K::Party,
         call: &mut P,
         task: &Task,
         cx: &mut Context<'_>,
     ) -> Option<P::Answer>
         ensures polled { HasPolled A P.polls call.old call.new result }
+        ensures did { Did K.did (P.makes call.old call.new) me.old result me.new }
         ensures registered { result ≡ None → Covers cx.new (λ s. s ≡ task.now.source.id) }
         ensures kept { Keeps cx.old cx.new }
     {
-        locked.facts();
         let mut signal = None;
-        if locked.would_wait(call) {
-            if let Some(waker) = task.waker(locked.parked_signal(call), cx) {
+        if kept.locked.would_wait(call) {
+            if let Some(waker) = task.waker(kept.locked.parked_signal(call), cx) {
                 signal = Some(Signal::of_task(waker));
             }
         }
-        locked.poll(call, &mut signal, &mut SignalBell { rt: self.rt })
+        kept.poll(me, call, &mut signal, &mut SignalBell { rt: self.rt })
     }
 }
 

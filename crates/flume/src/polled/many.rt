@@ -13,9 +13,9 @@ use crate::shared::{Shared, SignalBell, Waits};
 use crate::signal::Signal;
 use crate::task::Task;
 use flume_calls::calls::{MoreReceives, SendMany};
-use flume_calls::locked::Locked;
 use flume_calls::polled::{PolledReceive, PolledSend};
 use flume_core::error::{RecvError, SendError, TrySendError};
+use flume_keeper::{Kept, NoParty};
 use futures::task::Context;
 use std::alloc::Allocator;
 use std::collections::VecDeque;
@@ -39,12 +39,12 @@ impl<T: Drop, R: Waits, A: Allocator + Copy> Shared<T, R, A> {
         ensures kept { Keeps cx.old cx.new }
     {
         let mut guard = self.lock();
-        let locked = &mut guard.locked;
-        match self.poll_locked(locked, call, task, cx) {
+        match self.poll_locked(&mut guard, &mut NoParty, call, task, cx) {
             Some(Ok(message)) => {
                 buffer.push_reserved(message);
                 let turn = MoreReceives { buffer, most: more };
-                let (buffer, taken) = locked.make(turn, &mut SignalBell { rt: self.rt });
+                let bell = &mut SignalBell { rt: self.rt };
+                let (buffer, taken) = guard.make(&mut NoParty, turn, bell);
                 (buffer, Some(Ok(taken + 1)))
             }
             Some(Err(error)) => (buffer, Some(Err(error))),
@@ -69,17 +69,16 @@ impl<T: Drop, R: Waits, A: Allocator + Copy> Shared<T, R, A> {
         ensures kept { Keeps cx.old cx.new }
     {
         let mut guard = self.lock();
-        let locked = &mut guard.locked;
-        let answer = self.poll_locked(locked, call, task, cx);
+        let answer = self.poll_locked(&mut guard, &mut NoParty, call, task, cx);
         if !is_sent(&answer) {
             return (messages, answer);
         }
-        self.poll_list(locked, call, task, cx, messages)
+        self.poll_list(&mut guard, call, task, cx, messages)
     }
 
     fn poll_list(
         &self,
-        locked: &mut Locked<T, Signal<A>, A>,
+        kept: &mut Kept<T, Signal<A>, A>,
         call: &mut PolledSend<T>,
         task: &Task,
         cx: &mut Context<'_>,
@@ -94,13 +93,13 @@ impl<T: Drop, R: Waits, A: Allocator + Copy> Shared<T, R, A> {
         ensures registered { result.1 ≡ None → Covers cx.new (λ s. s ≡ task.now.source.id) }
         ensures kept { Keeps cx.old cx.new }
     {
-        locked.facts();
-        match locked.make(SendMany { messages }, &mut SignalBell { rt: self.rt }) {
+        let bell = &mut SignalBell { rt: self.rt };
+        match kept.make(&mut NoParty, SendMany { messages }, bell) {
             Ok(()) => (VecDeque::new(self.alloc), Some(Ok(()))),
             Err(TrySendError::Full(rest)) => {
                 let (first, behind) = split_first(rest);
                 *call = PolledSend::Unsent(first);
-                (behind, self.poll_locked(locked, call, task, cx))
+                (behind, self.poll_locked(kept, &mut NoParty, call, task, cx))
             }
             Err(TrySendError::Disconnected(rest)) => {
                 let (first, behind) = split_first(rest);

@@ -146,7 +146,7 @@ impl<T: Drop, R: Waits, A: Allocator + Copy> Future for RecvFut<'_, T, R, A> {
         ensures receiver { self.new.receiver ≡ self.old.receiver }
     {
         let shared = self.receiver.get().shared();
-        match shared.poll(&mut self.call, &self.task, cx) {
+        match shared.poll(&mut NoParty, &mut self.call, &self.task, cx) {
             Some(answer) => Poll::Ready(answer),
             None => Poll::Pending,
         }

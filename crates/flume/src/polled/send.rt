@@ -185,7 +185,7 @@ impl<T: Drop, R: Waits, A: Allocator + Copy> Future for SendFut<'_, T, R, A> {
             return Poll::Ready(Ok(()));
         }
         let shared = self.sender.get().shared();
-        match shared.poll(&mut self.send, &self.task, cx) {
+        match shared.poll(&mut NoParty, &mut self.send, &self.task, cx) {
             Some(answer) => Poll::Ready(answer),
             None => Poll::Pending,
         }

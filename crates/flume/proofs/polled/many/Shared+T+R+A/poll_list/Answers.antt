@@ -16,13 +16,13 @@ returns-in-Err-Full-clause-leaves g c =
 
 pub returns-in-Ok-clause-made : goal.returns-in-Ok-clause-made
 returns-in-Ok-clause-made g c =
-    let reachable = c.facts.ensures.reachable in
+    let reachable = c.in-Ok.ensures.reachable in
     let none : c.new.result.items ≡ [] = search rules in
     polls_to (AllTakenIn (none_polled _ reachable) (batch_at reachable c.in-Ok.ensures.call.turn.0 refl)) none c.requires.ended
 
 pub returns-in-Err-Full-clause-made : goal.returns-in-Err-Full-clause-made
 returns-in-Err-Full-clause-made g c =
-    let reachable = c.facts.ensures.reachable in
+    let reachable = c.in-Err-Full.ensures.reachable in
     let turn = rw c.in-Err-Full.field-0-is at c.in-Err-Full.ensures.call.turn in
     let items = sym {A = List g.row.T.Denot} c.split_first-first.ensures.items in
     FirstIsPolled (none_polled _ reachable) (batch_at reachable turn.0 (ap {A = List g.row.T.Denot} (λ list. Err (Full list)) items))
@@ -30,7 +30,7 @@ returns-in-Err-Full-clause-made g c =
 
 pub returns-in-Err-Disconnected-clause-made : goal.returns-in-Err-Disconnected-clause-made
 returns-in-Err-Disconnected-clause-made g c =
-    let reachable = c.facts.ensures.reachable in
+    let reachable = c.in-Err-Disconnected.ensures.reachable in
     let turn = rw c.in-Err-Disconnected.field-0-is at c.in-Err-Disconnected.ensures.call.turn in
     let items = sym {A = List g.row.T.Denot} c.split_first-first-in-Err-Disconnected.ensures.items in
     polls_to (IsClosed (none_polled _ reachable) (batch_at reachable turn.0 (ap {A = List g.row.T.Denot} (λ list. Err (Disconnected list)) items)))
@@ -38,7 +38,7 @@ returns-in-Err-Disconnected-clause-made g c =
 
 pub returns-in-Err-NoMemory-clause-made : goal.returns-in-Err-NoMemory-clause-made
 returns-in-Err-NoMemory-clause-made g c =
-    let reachable = c.facts.ensures.reachable in
+    let reachable = c.in-Err-NoMemory.ensures.reachable in
     let turn = rw c.in-Err-NoMemory.field-0-is at c.in-Err-NoMemory.ensures.call.turn in
     let items = sym {A = List g.row.T.Denot} c.split_first-first-in-Err-NoMemory.ensures.items in
     polls_to (IsRefused (none_polled _ reachable) (batch_at reachable turn.0 (ap {A = List g.row.T.Denot} (λ list. Err (NoMemory list)) items)))
