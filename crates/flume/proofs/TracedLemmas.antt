@@ -36,7 +36,7 @@ module _ {T A : Type 0} where
   adds old steps new = new ≡ and_made old steps
 
   -- actions after others
-  then_made : {between new : P T A} (old : P T A) (some more : List (Action T A))
+  pub then_made : {between new : P T A} (old : P T A) (some more : List (Action T A))
       → new ≡ and_made between more → between ≡ and_made old some
       → new ≡ and_made old (some ++ more)
   then_made old some more later before =

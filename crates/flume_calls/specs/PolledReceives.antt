@@ -75,10 +75,10 @@ module _ {T A : Type 0} where
   pub data ReceivePollSteps (kind : Kind) (after : Option ℕ) (answer : Option (Result T RecvError))
       : Option ℕ → List (Step T × Reply T A) → Type 0 where
     MakesTry : {reply : Reply T A} (next : RecvNext T) → after_try_recv reply next
-        → finishes_receive false next after answer
+        → IsFirstAnswer next → finishes_receive false next after answer
         → ReceivePollSteps kind after answer None ((TryRecv, reply) ∷ [])
     MakesRecv : {reply : Reply T A} (next : RecvNext T) → after_recv reply next
-        → finishes_receive true next after answer
+        → IsParkingAnswer next → finishes_receive true next after answer
         → ReceivePollSteps kind after answer None ((Recv kind, reply) ∷ [])
     MakesNone : {ticket : ℕ} → after ≡ Some ticket → answer ≡ Some (Err NoMemory)
         → ReceivePollSteps kind after answer (Some ticket) []
@@ -95,11 +95,11 @@ module _ {T A : Type 0} where
   receive_poll_leads {kind = kind} {after = after} {answer = answer}
       (Tries next is none turn first served outcome finishes) = with_table turn
       (subst (λ call. ReceivePollSteps kind after answer call ((TryRecv, turn.reply) ∷ []))
-      (sym is) (MakesTry next turn.answered finishes))
+      (sym is) (MakesTry next turn.answered first finishes))
   receive_poll_leads {kind = kind} {after = after} {answer = answer}
       (Parks next given is some turn parking outcome finishes) = with_table turn
       (subst (λ call. ReceivePollSteps kind after answer call ((Recv kind, turn.reply) ∷ []))
-      (sym is) (MakesRecv next turn.answered finishes))
+      (sym is) (MakesRecv next turn.answered parking finishes))
   receive_poll_leads {kind = kind} {after = after} {old = old} {answer = answer}
       (Unsignalled ticket is none nothing same kept said) = record {
         made = [];

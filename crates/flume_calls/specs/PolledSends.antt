@@ -79,10 +79,10 @@ module _ {T A : Type 0} where
       : PolledSend T → List (Step T × Reply T A) → Type 0 where
     MakesNone : after ≡ Finished → answer ≡ Some (Ok tt) → SendPollSteps after answer Finished []
     MakesTry : {message : T} {reply : Reply T A} (next : SendNext T) → after_try_send reply next
-        → finishes_send next after answer
+        → IsFirstAnswer message next → finishes_send next after answer
         → SendPollSteps after answer (Unsent message) ((TrySend message, reply) ∷ [])
     MakesSend : {message : T} {reply : Reply T A} (next : SendNext T) → after_send reply next
-        → finishes_send next after answer
+        → IsParkingAnswer message next → finishes_send next after answer
         → SendPollSteps after answer (Unsent message) ((Send message, reply) ∷ [])
     MakesPoll : {ticket : ℕ} {reply : Reply T A} (next : SendNext T) (last : Bool)
         → after_parked_send ticket last reply next → IsParkedAnswer ticket last next
@@ -104,11 +104,11 @@ module _ {T A : Type 0} where
   send_poll_leads {after = after} {answer = answer}
       (Tries message next is none turn first outcome finishes) = with_table turn
       (subst (λ send. SendPollSteps after answer send ((TrySend message, turn.reply) ∷ []))
-      (sym is) (MakesTry next turn.answered finishes))
+      (sym is) (MakesTry next turn.answered first finishes))
   send_poll_leads {after = after} {answer = answer}
       (Parks message next given is some turn parking outcome finishes) = with_table turn
       (subst (λ send. SendPollSteps after answer send ((Send message, turn.reply) ∷ []))
-      (sym is) (MakesSend next turn.answered finishes))
+      (sym is) (MakesSend next turn.answered parking finishes))
   send_poll_leads {after = after} {answer = answer}
       (Asks last ticket next is held signalled turn again outcome finishes) = with_table turn
       (subst (λ send. SendPollSteps after answer send

@@ -86,8 +86,8 @@ module _ {T A : Type 0} where
       {answer : Option (Result (Unit {0}) (SendError T))} → SendPollSteps after answer send made
       → AreOwned is_of_party made
   send_poll_moves (send.MakesNone finished ok) = refl
-  send_poll_moves (send.MakesTry next answered finishes) = refl
-  send_poll_moves (send.MakesSend next answered finishes) = refl
+  send_poll_moves (send.MakesTry next answered first finishes) = refl
+  send_poll_moves (send.MakesSend next answered parking finishes) = refl
   send_poll_moves (send.MakesPoll {ticket = ticket} next last answered again finishes) =
       λ i. parked_send_moves T ticket last i && true
 
@@ -95,7 +95,7 @@ module _ {T A : Type 0} where
   pub receive_poll_moves : {kind : Kind} {call after : Option ℕ} {made : List (Action T A)}
       {answer : Option (Result T RecvError)} → ReceivePollSteps kind after answer call made
       → AreOwned is_of_party made
-  receive_poll_moves (receive.MakesTry next answered finishes) = refl
-  receive_poll_moves (receive.MakesRecv next answered finishes) = refl
+  receive_poll_moves (receive.MakesTry next answered first finishes) = refl
+  receive_poll_moves (receive.MakesRecv next answered parking finishes) = refl
   receive_poll_moves (receive.MakesNone kept said) = refl
   receive_poll_moves (receive.MakesPoll next signalled answered again finishes) = refl
