@@ -1,11 +1,13 @@
 //! Programs of threads and channels of which it is proved what comes out, whatever the schedule.
 #![tactic(auto)]
 
+mod each_call;
 mod exchanging;
 mod piping;
 mod pooling;
 mod threads;
 
+use each_call::each_call;
 use exchanging::exchange;
 use piping::pipeline;
 use pooling::pool;
@@ -23,5 +25,7 @@ fn main(rt: HostRuntime) -> io::Result<()> {
     let mut halves = pool(rt, rt.alloc(), &first)?;
     halves.sort()?;
     println!(rt; "the halves, by a pool: {halves:?}")?;
+    let items = each_call(rt, rt.alloc())?;
+    println!(rt; "by each call: {items:?}")?;
     Ok(())
 }

@@ -1,0 +1,110 @@
+//! Each call of traced ends that isn't made elsewhere in this program, in one thread.
+ghost use Rattle.std.specs.Prelude.{◌≡◌};
+
+use flume::Runtime;
+use flume::traced::{ChannelName, ChannelParty, TracedReceiver, TracedSender, UnopenedChannel};
+use futures::executor::block_on;
+use std::alloc::Global;
+use std::io;
+use std::marker::Brand;
+use std::random::RandomSource;
+use std::time::{Duration, Instant};
+
+/// Sends 1 to 14, and gives the party back.
+fn send_each<J: ChannelName, R: Runtime + RandomSource>(
+    rt: R,
+    alloc: Global,
+    tx: TracedSender<u64, R, J>,
+    mut me: ChannelParty<u64, J>,
+) -> io::Result<ChannelParty<u64, J>> {
+    let now = Instant::now(&rt)?;
+    tx.try_send(&mut me, 1)?;
+    tx.send_deadline(&mut me, 2, now)?;
+    tx.send_timeout(&mut me, 3, Duration::ZERO)?;
+    tx.try_send_many(&mut me, vec![in alloc; 4, 5]?)?;
+    tx.send_many(&mut me, vec![in alloc; 6, 7]?)?;
+    tx.send_many_deadline(&mut me, vec![in alloc; 8, 9]?, now)?;
+    tx.send_many_timeout(&mut me, vec![in alloc; 10, 11]?, Duration::ZERO)?;
+    let (mut me, sent) = block_on(&rt, tx.send_async(me, 12))?;
+    sent?;
+    let weak = tx.downgrade()?;
+    if let Some(other) = weak.upgrade()? {
+        other.send(&mut me, 13)?;
+    }
+    tx.confirm(&mut me);
+    let (me, sent) = block_on(&rt, tx.into_send_async(me, 14))?;
+    sent?;
+    Ok(me)
+}
+
+/// Takes the first seven by calls that give a message, or a list.
+fn receive_each<J: ChannelName, R: Runtime>(
+    rt: R,
+    rx: &TracedReceiver<u64, R, J>,
+    me: &mut ChannelParty<u64, J>,
+    items: &mut Vec<u64>,
+) -> io::Result<()> {
+    let (now, hour) = (Instant::now(&rt)?, Duration::from_secs(3600));
+    items.push(rx.try_recv(me)?)?;
+    items.push(rx.recv_deadline(me, now)?)?;
+    items.push(rx.recv_timeout(me, hour)?)?;
+    rx.try_recv_many(me, items, 1)?;
+    rx.recv_many(me, items, 1)?;
+    rx.recv_many_deadline(me, items, 1, now)?;
+    rx.recv_many_timeout(me, items, 1, hour)?;
+    rx.confirm(me);
+    Ok(())
+}
+
+/// Takes the others by iterators, futures and a drain.
+fn receive_others<J: ChannelName, R: Runtime + RandomSource>(
+    rt: R,
+    rx: TracedReceiver<u64, R, J>,
+    me: ChannelParty<u64, J>,
+    items: &mut Vec<u64>,
+) -> io::Result<()> {
+    let now = Instant::now(&rt)?;
+    let mut messages = rx.try_iter(me);
+    items.extend(messages.next())?;
+    let mut messages = rx.iter_timeout(messages.into_party(), Duration::from_secs(3600));
+    items.extend(messages.next())?;
+    let mut messages = rx.iter_deadline(messages.into_party(), now);
+    items.extend(messages.next())?;
+    let (me, message) = block_on(&rt, rx.recv_async(messages.into_party()))?;
+    items.push(message?)?;
+    let other = rx.clone()?;
+    let (me, message) = block_on(&rt, other.into_recv_async(me))?;
+    items.push(message?)?;
+    let other = rx.clone()?;
+    let mut messages = other.into_iter(me);
+    items.extend(messages.next())?;
+    let mut me = messages.into_party();
+    for message in rx.drain(&mut me)? {
+        items.push(message)?;
+    }
+    Ok(())
+}
+
+/// What is received over this channel, of 1 to 14.
+pub fn each_call_named<J: ChannelName, R: Runtime + RandomSource>(
+    rt: R,
+    alloc: Global,
+    channel: UnopenedChannel,
+) -> io::Result<Vec<u64>>
+    requires named { channel ≡ J.identity }
+    requires parts { channel.parts ≡ 2 }
+{
+    let (tx, rx, mut me) = flume::on(rt).traced::<u64, J>(channel)?;
+    let other = me.split_off(1);
+    let sent = send_each(rt, alloc, tx, other)?;
+    me.merge(sent);
+    let mut items = Vec::new(alloc);
+    receive_each(rt, &rx, &mut me, &mut items)?;
+    receive_others(rt, rx, me, &mut items)?;
+    Ok(items)
+}
+
+/// What is received, of 1 to 14, by each call of traced ends.
+pub fn each_call<R: Runtime + RandomSource>(rt: R, alloc: Global) -> io::Result<Vec<u64>> {
+    each_call_named::<Brand, R>(rt, alloc, UnopenedChannel::unbounded(2))
+}
