@@ -1,10 +1,9 @@
 -- A call that waits as long as it takes is never too late.
-use Rattle.std.proofs.Common.{◌≡◌, ◌≢◌, ℕ, Bool, true, Result, Err, refl, ◌∙◌, subst}
+use Rattle.std.proofs.Common.{◌≡◌, ◌≢◌, ℕ, Bool, Result, Err, refl, ◌∙◌, subst}
 use Rattle.flume_core.specs.declared.error.SendTimeoutError.{SendTimeoutError}
 use Rattle.flume_core.specs.declared.error.SendTimeoutError.TheVariants.{Timeout as SendTimeout}
 use Rattle.flume_core.specs.declared.error.RecvTimeoutError.{RecvTimeoutError}
 use Rattle.flume_core.specs.declared.error.RecvTimeoutError.TheVariants.{Timeout as RecvTimeout}
-use Rattle.flume_calls.specs.declared.calls.send.SendNext.{SendNext}
 use Rattle.flume_calls.specs.declared.calls.send.SendNext.TheVariants.{Done as SendDone}
 use Rattle.flume_calls.specs.declared.calls.receive.RecvNext.{RecvNext}
 use Rattle.flume_calls.specs.declared.calls.receive.RecvNext.TheVariants.{Done as RecvDone}

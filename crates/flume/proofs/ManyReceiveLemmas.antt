@@ -1,9 +1,8 @@
 -- A receive of many: what its turns leave of the list, and how they answer.
-use Rattle.std.proofs.Common.{◌≡◌, ℕ, ◌<◌, Bool, false, true, List, [], ◌∷◌, ◌++◌, length, Result, Ok, Err, Vec, IfOk, OnErr}
+use Rattle.std.proofs.Common.{◌≡◌, ℕ, ◌<◌, Bool, false, true, List, [], ◌++◌, length, Result, Ok, Err, Vec, IfOk, OnErr}
 use Rattle.std.proofs.Common.{refl, sym, ap, ◌∙◌, subst, arith}
 use Rattle.std.proofs.lemmas.List.{append-nil}
 use Rattle.flume_core.specs.declared.error.RecvError.{RecvError}
-use Rattle.flume_core.specs.declared.error.RecvError.TheVariants as recv
 use Rattle.flume_core.specs.declared.error.RecvTimeoutError.{RecvTimeoutError}
 use Rattle.flume_calls.specs.declared.calls.receive.RecvNext.{RecvNext}
 use Rattle.flume_calls.specs.declared.calls.receive.RecvNext.TheVariants.{Done, NeedSignal, Park}
@@ -126,8 +125,8 @@ module _ {P T A : Type 0} {did : P → List (Action T A) → P → Type 0} where
 
   -- what a turn leaves of a list like this
   more_leaves : {makes : List (Action T A) → RecvNext T → Type 0} {old new : ManyState P T A} {most : ℕ} {items : List T}
-      (result : Result ℕ RecvTimeoutError) → 0 < most → old.most ≡ most → old.list.items ≡ items → TurnAndMoreOf did makes old new (Done result)
-      → Leaves most items new.list.items result
+      (result : Result ℕ RecvTimeoutError) → 0 < most → old.most ≡ most → old.list.items ≡ items
+      → TurnAndMoreOf did makes old new (Done result) → Leaves most items new.list.items result
   more_leaves (Ok n) some same list more = (grind (arith, append-nil), tt)
   more_leaves (Err e) some same list more = (tt, grind (arith, append-nil))
 

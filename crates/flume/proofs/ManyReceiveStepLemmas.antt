@@ -1,4 +1,4 @@
--- What a party of a channel without a trace did is what some run goes on with; and what turns of a receive of many say of the list.
+-- A receive of many without a trace: its steps are some that a run goes on with.
 use Rattle.std.proofs.Common.{◌≡◌, ℕ, ◌+◌, ◌<◌, ◌⊎◌, inl, inr, List, [], ◌∷◌, ◌++◌, Result, Ok, Err, Vec, zero, suc}
 use Rattle.std.proofs.Common.{vec_len, vec_capacity, refl, ap, ◌∙◌, subst, length, arith}
 use Rattle.flume_model.specs.declared.step.Step.{Step}
@@ -8,9 +8,9 @@ use Rattle.flume_model.specs.Replies.{IsRun}
 use Rattle.flume_state.specs.State.{State}
 use Rattle.flume_core.specs.Represents.{Represents}
 use Rattle.flume_core.specs.declared.error.RecvTimeoutError.{RecvTimeoutError}
-use Rattle.flume_core.specs.declared.error.RecvTimeoutError.TheVariants.{Timeout, Disconnected, NoMemory}
+use Rattle.flume_core.specs.declared.error.RecvTimeoutError.TheVariants.{NoMemory}
 use Rattle.flume_calls.specs.declared.calls.receive.RecvNext.{RecvNext}
-use Rattle.flume_calls.specs.declared.calls.receive.RecvNext.TheVariants.{Done, NeedSignal, Park, Refused}
+use Rattle.flume_calls.specs.declared.calls.receive.RecvNext.TheVariants.{Done}
 use Rattle.flume_calls.specs.Batches.{StepsBetween, NoSteps, FirstStep, IsOneStep, log_after}
 use Rattle.flume_calls.specs.ReceiveGates as gate
 use Rattle.flume_calls.specs.ManyReceives.{each_got, FirstManyOutcome}
@@ -71,6 +71,7 @@ module _ {P T A : Type 0} where
       let run = more.turn.made in
       let all = more.turn.answered in
       let one = all.answered in
+      let steps = all.steps ∙ ap (λ made. made ++ each_got all.taken) one.is in
       record {
         first = all.first;
         more = length all.taken;
@@ -79,7 +80,7 @@ module _ {P T A : Type 0} where
           log = run.log;
           reply = one.reply;
           run = earlier run.opening ((step, one.reply) ∷ run.log) (each_got all.taken)
-              (subst (λ made. IsRun run.opening (log_after run.log made)) (all.steps ∙ ap (λ made. made ++ each_got all.taken) one.is) run.run);
+              (subst (λ made. IsRun run.opening (log_after run.log made)) steps run.run);
           answered = one.answered;
         };
         next_is = all.gives.next_is;

@@ -1,5 +1,5 @@
 -- What a receive of many of a party did, as its actions, and what it got by them.
-use Rattle.std.proofs.Common.{◌≡◌, ◌≢◌, ℕ, ◌+◌, ◌-◌, ◌<◌, suc, zero, Bool, true, false, List, [], ◌∷◌, ◌++◌, Result, Ok, Err, Vec, length}
+use Rattle.std.proofs.Common.{◌≡◌, ℕ, ◌<◌, suc, zero, Bool, true, false, List, [], ◌∷◌, ◌++◌, Result, Ok, Err, Vec, length}
 use Rattle.std.proofs.Common.{refl, sym, ap, ◌∙◌, subst, append_assoc, arith}
 use Rattle.std.proofs.lemmas.List.{append-nil}
 use Rattle.flume_model.specs.declared.step.Step.TheVariants.{TryRecv}
@@ -10,17 +10,17 @@ use Rattle.flume_calls.specs.declared.calls.receive.RecvNext.{RecvNext}
 use Rattle.flume_calls.specs.declared.calls.receive.RecvNext.TheVariants.{Done, NeedSignal, Park, Refused}
 use Rattle.flume_calls.specs.ReceiveTurns.{after_try_recv, GivesNone, IsParkedAnswer}
 use Rattle.flume_calls.specs.ReceiveGates as gate
-use Rattle.flume_calls.specs.ManyReceives.{each_got, Gives, given_by, with_more, IsAtMost, FirstManyTable, Some, None, NoRoom}
+use Rattle.flume_calls.specs.ManyReceives.{each_got, given_by, with_more, IsAtMost, FirstManyTable, Some, None, NoRoom}
 use Rattle.flume_party.specs.Parties.{PartyState, party_of, and_made}
 use Rattle.flume_actions.specs.Actions.{Action}
-use Rattle.flume_actions.specs.Calls.{HasCalled, HasStepped, HasReceived, TriesToReceive, got_by_try}
+use Rattle.flume_actions.specs.Calls.{HasCalled, HasStepped, TriesToReceive, got_by_try}
 use Rattle.flume_actions.specs.ReceiveCalls.{Tried}
 use Rattle.flume_actions.specs.Callers.{HasMadeCalls}
 use Rattle.flume_actions.proofs.CallerLemmas.{no_call, and_call}
 use Rattle.flume_keeper.specs.Keeps.{Did}
 use Rattle.flume.specs.PartySteps.{Same, AgainReceiveOf}
 use Rattle.flume.specs.ManyReceiveSteps.{LacksRoom}
-use Rattle.flume.specs.ManyReceiveGates.{ManyState, SameState, FirstManyOf, TurnAndMoreOf, AgainManyOf, ReceivesManyOf}
+use Rattle.flume.specs.ManyReceiveGates.{ManyState, many_state, SameState, FirstManyOf, TurnAndMoreOf, AgainManyOf, ReceivesManyOf}
 use Rattle.flume.specs.ManyReceiveActions.{HasGot, HasReceivedAs, HasReceivedAndMore, HasReceivedMany}
 use Rattle.flume.specs.ManyReceiveActions as many
 use Rattle.flume.proofs.ManyReceiveLemmas.{first_none, more_parks}
@@ -37,9 +37,9 @@ module _ {T : Type 0} where
   ended n (Refused t) result is = absurd (let none : ⊥ = cc in none)
 
   -- it answers as one without those behind it
-  answers_alone : (t n : ℕ) (last : Bool) (r : Result T RecvTimeoutError) → IsParkedAnswer t last (with_more n (Done r))
-      → IsParkedAnswer {T = T} t last (Done r)
-  answers_alone t n last r is = grind arith
+  answers_alone : (t n : ℕ) (last : Bool) (r : Result T RecvTimeoutError) {result : Result ℕ RecvTimeoutError}
+      → Done result ≡ with_more n (Done r) → IsParkedAnswer t last (Done result) → IsParkedAnswer {T = T} t last (Done r)
+  answers_alone t n last r is answers = grind arith
 
   -- what a try got is what its turn gave
   given : (first : RecvNext T) → got_by_try first ≡ given_by first
@@ -72,12 +72,7 @@ module _ {T A : Type 0} where
     taken = [];
     receive = did;
     made = sym (none_made new);
-    gives = record {
-      items = same ∙ sym (ap (λ given. before ++ (given ++ [])) none ∙ append-nil before);
-      next_is = is;
-      only_behind_one = λ none. refl;
-      at_most = omega arith;
-    };
+    gives = grind (arith, append-nil);
   }
 
   -- what a turn and those behind it did
@@ -96,27 +91,27 @@ module _ {T A : Type 0} where
       }
 
   -- the same of a call that this turn ended, from where it began
-  and_ended : {receives receives' : P T A → RecvNext T → P T A → Type 0} {most most' : ℕ} {old old' new : P T A} {before before' after : List T}
-      {result : Result ℕ RecvTimeoutError} → most ≡ most' → before ≡ before'
+  and_ended : {receives receives' : P T A → RecvNext T → P T A → Type 0} {most most' : ℕ} {old old' new : P T A}
+      {before before' after : List T} {result : Result ℕ RecvTimeoutError} → most ≡ most' → before ≡ before'
       → ((r : Result T RecvTimeoutError) (n : ℕ) (between : P T A) → Done result ≡ with_more n (Done r) → receives old (Done r) between
       → receives' old' (Done r) between)
-      → HasReceivedAndMore receives most old before new after (Done result) → HasReceivedAndMore receives' most' old' before' new after (Done result)
-  and_ended {receives} {receives'} {most} {most'} {old = old} {old' = old'} {new = new} {before = before} {after = after} {result = result} same list ends more =
-      let first = ended (length more.taken) more.first result more.gives.next_is in
-      let is = subst (λ n. Done result ≡ with_more (length more.taken) n) first.1 more.gives.next_is in
+      → HasReceivedAndMore receives most old before new after (Done result)
+      → HasReceivedAndMore receives' most' old' before' new after (Done result)
+  and_ended {receives} {old = old} {result = result} same list ends more =
+      let n = length more.taken in
+      let first = ended n more.first result more.gives.next_is in
+      let is = subst (λ next. Done result ≡ with_more n next) first.1 more.gives.next_is in
       record {
         between = more.between;
         first = Done first.0;
         taken = more.taken;
-        receive = ends first.0 (length more.taken) more.between is (subst (λ n. receives old n more.between) first.1 more.receive);
+        receive = ends first.0 n more.between is (subst (λ next. receives old next more.between) first.1 more.receive);
         made = more.made;
-        gives = subst (λ items. Gives items (most' - 1) (Done first.0) more.taken after (Done result)) list
-            (subst (λ most. Gives before (most - 1) (Done first.0) more.taken after (Done result)) same
-            (subst (λ n. Gives before (most - 1) n more.taken after (Done result)) first.1 more.gives));
+        gives = grind (arith, more.gives);
       }
 
   -- what the first turn did
-  pub first_received : {old new : ManyState (P T A) T A} {next : RecvNext ℕ} → 0 < old.most → FirstManyOf adds old new next
+  first_received : {old new : ManyState (P T A) T A} {next : RecvNext ℕ} → 0 < old.most → FirstManyOf adds old new next
       → HasReceivedMany (HasStepped TryRecv after_try_recv) old.most old.party old.list new.party new.list next
   first_received {old} {new} {next} some first = go first.turn.steps first.turn.made first.turn.answered
     where
@@ -124,18 +119,13 @@ module _ {T A : Type 0} where
           → length taken ≡ count → next ≡ Done (Ok count) → IsAtMost old.most (Done (Ok count))
           → HasReceivedMany (HasStepped TryRecv after_try_recv) old.most old.party old.list new.party new.list next
       took [] count made items number is within = absurd (let none = within.1 (sym number) in omega arith)
-      took (m ∷ taken) count made items number is within = many.AndMore (record {
+      took (m ∷ taken) count made items number is within = many.Receives (record {
         between = and_made old.party ((TryRecv, Got m) ∷ []);
         first = Done (Ok m);
         taken = taken;
         receive = record { reply = Got m; answered = refl; made = refl };
         made = made ∙ both_made old.party ((TryRecv, Got m) ∷ []) (each_got taken);
-        gives = record {
-          items = items;
-          next_is = is ∙ ap (λ n. Done (Ok n)) (omega arith);
-          only_behind_one = λ none. absurd (let none : ⊥ = cc in none);
-          at_most = let most = within.0 in omega arith;
-        };
+        gives = grind arith;
       })
 
       go : (made : List (Action T A)) → new.party ≡ and_made old.party made
@@ -144,11 +134,11 @@ module _ {T A : Type 0} where
       go made did (Some count takes is) =
           took takes.taken count (did ∙ ap (λ made. and_made old.party made) takes.steps) takes.items takes.number is
           (subst (λ n. IsAtMost old.most n) is first.at_most)
-      go made did (None reply answer one answered none same is) = many.AndMore
+      go made did (None reply answer one answered none same is) = many.Receives
           (alone answer (record { reply = reply; answered = answered; made = did ∙ ap (λ made. and_made old.party made) one })
           (gave_none answer none) same is)
       go made did (NoRoom none same is) =
-          many.LacksRoom (subst (λ n. LacksRoom old.list old.most n) is first.room)
+          many.HasNoRoom (subst (λ n. LacksRoom old.list old.most n) is first.room)
           (did ∙ (ap (λ made. and_made old.party made) none ∙ none_made old.party)) same is
 
   -- the parked call, as a receive of the message that ended it
@@ -161,14 +151,14 @@ module _ {T A : Type 0} where
       → gate.ParkedReceive (AgainManyOf adds) SameState old ticket new result
       → HasReceivedAndMore (ParkedEnds ticket) old.most old.party old.list.items new.party new.list.items (Done result)
   parked_received {ticket = ticket} (gate.Asked a) = and_ended refl refl
-      (λ r n between is did. gate.Asked (record { answers = answers_alone ticket n false r (subst (IsParkedAnswer ticket false) is a.answers); turn = did }))
+      (λ r n between is did. gate.Asked (record { answers = answers_alone ticket n false r is a.answers; turn = did }))
       (more_received a.turn)
   parked_received (gate.Withdrawn a b e) = absurd a.had_memory
   parked_received (gate.Expired {same = same} a w b) =
       let parks = more_parks a.turn in
       and_ended (w.most ∙ a.turn.most) (w.items ∙ parks.1)
       (λ r n between is did. gate.Expired (record { answers = a.answers; turn = parks.0 }) w.party
-      (record { answers = answers_alone same n true r (subst (IsParkedAnswer same true) is b.answers); turn = did }))
+      (record { answers = answers_alone same n true r is b.answers; turn = did }))
       (more_received b.turn)
   parked_received (gate.Waited a w rest) =
       let parks = more_parks a.turn in
@@ -177,27 +167,45 @@ module _ {T A : Type 0} where
       (parked_received rest)
 
   -- what a whole call did
-  pub many_received : {most : ℕ} {old new : P T A} {before after : Vec T A} {result : Result ℕ RecvTimeoutError} → 0 < most
+  whole_received : {most : ℕ} {old new : P T A} {before after : Vec T A} {result : Result ℕ RecvTimeoutError} → 0 < most
       → ReceivesManyOf adds most old before new after result → HasReceivedMany HasReceivedAs most old before new after (Done result)
-  many_received {most} {old} {new} {before} {after} {result} some (end, gate.AtFirst f) = go (first_received some f)
+  whole_received {most} {old} {new} {before} {after} {result} some (end, gate.AtFirst f) = go (first_received some f)
     where
       go : HasReceivedMany (HasStepped TryRecv after_try_recv) most old before new after (Done result)
           → HasReceivedMany HasReceivedAs most old before new after (Done result)
-      go (many.AndMore more) = many.AndMore
+      go (many.Receives more) = many.Receives
           (and_ended refl refl (λ r n between is did. record { actions = _; receive = Tried did.answered; made = did.made }) more)
-      go (many.LacksRoom lacks did same is) = many.LacksRoom lacks did same is
-  many_received some (end, gate.NoWaiter f a e) =
+      go (many.HasNoRoom lacks did same is) = many.HasNoRoom lacks did same is
+      go (many.NoneAsked none did same is) = many.NoneAsked none did same is
+  whole_received some (end, gate.NoWaiter f a e) =
       let finds = first_none f in
-      many.AndMore (alone (Done (Err NoMemory)) (has_received (gate.NoWaiter finds.0 a.party refl)) refl (a.items ∙ finds.1) (ap (λ r. Done r) e))
-  many_received some (end, gate.AtPark f a p) =
+      many.Receives (alone (Done (Err NoMemory)) (has_received (gate.NoWaiter finds.0 a.party refl)) refl (a.items ∙ finds.1)
+      (ap (λ r. Done r) e))
+  whole_received some (end, gate.AtPark f a p) =
       let finds = first_none f in
-      many.AndMore (and_ended (a.most ∙ f.most) (a.items ∙ finds.1)
+      many.Receives (and_ended (a.most ∙ f.most) (a.items ∙ finds.1)
       (λ r n between is did. has_received (gate.AtPark finds.0 a.party did)) (more_received p.turn))
-  many_received some (end, gate.Parked f a p rest) =
+  whole_received some (end, gate.Parked f a p rest) =
       let finds = first_none f in
       let parks = more_parks p.turn in
-      many.AndMore (and_ended (p.turn.most ∙ (a.most ∙ f.most)) (parks.1 ∙ (a.items ∙ finds.1))
+      many.Receives (and_ended (p.turn.most ∙ (a.most ∙ f.most)) (parks.1 ∙ (a.items ∙ finds.1))
       (λ r n between is later. has_received (gate.Parked finds.0 a.party parks.0 later)) (parked_received rest))
+
+  -- what a receive of many at once did
+  pub tried_many : {old new : P T A} {before after : Vec T A} {next : RecvNext ℕ} (most : ℕ)
+      → (most ≡ 0 → (new ≡ old) × (after ≡ before)) → (most ≡ 0 → next ≡ Done (Ok 0))
+      → (0 < most → FirstManyOf adds (many_state old most before) (many_state new most after) next)
+      → HasReceivedMany (HasStepped TryRecv after_try_recv) most old before new after next
+  tried_many zero nothing none some = many.NoneAsked refl (nothing refl).0 (nothing refl).1 (none refl)
+  tried_many (suc n) nothing none some = first_received (omega arith) (some (omega arith))
+
+  -- what a receive of many that may wait did
+  pub received_many : {old new : P T A} {before after : Vec T A} {result : Result ℕ RecvTimeoutError} (most : ℕ)
+      → (most ≡ 0 → (new ≡ old) × (after ≡ before)) → (most ≡ 0 → result ≡ Ok 0)
+      → (0 < most → ReceivesManyOf adds most old before new after result)
+      → HasReceivedMany HasReceivedAs most old before new after (Done result)
+  received_many zero nothing none some = many.NoneAsked refl (nothing refl).0 (nothing refl).1 (ap (λ r. Done r) (none refl))
+  received_many (suc n) nothing none some = whole_received (omega arith) (some (omega arith))
 
   -- messages that were taken each by a `try_recv` are calls
   and_got : {old new : P T A} (taken : List T) {between : P T A} {got : List T} → HasMadeCalls old between [] got
@@ -210,43 +218,42 @@ module _ {T A : Type 0} where
       (and_got taken (and_call calls (record { actions = _; call = TriesToReceive (Done (Ok m)) refl; made = refl }) refl refl)
       (made ∙ both_made between ((TryRecv, Got m) ∷ []) (each_got taken)))
 
+  -- a party that did nothing got nothing
+  got_none : {old new : P T A} {before after : List T} → new ≡ old → after ≡ before → HasGot old new before after
+  got_none {old} {before = before} did same = record {
+    got = [];
+    items = same ∙ sym (append-nil before);
+    calls = subst (λ party. HasMadeCalls old party [] []) (sym did) (no_call old);
+  }
+
   -- what a receive of many got
-  pub has_got : {receives : P T A → RecvNext T → P T A → Type 0} {old new : P T A} {before after : Vec T A} {next : RecvNext ℕ}
-      (most : ℕ) → (most ≡ 0 → (new ≡ old) × (after ≡ before))
-      → (0 < most → HasReceivedMany receives most old before new after next)
+  has_got : {receives : P T A → RecvNext T → P T A → Type 0} {most : ℕ} {old new : P T A} {before after : Vec T A} {next : RecvNext ℕ}
       → ((first : RecvNext T) (between : P T A) → receives old first between → HasCalled old between [] (got_by_try first))
-      → HasGot old new before.items after.items
-  has_got {receives} {old} {new} {before} {after} {next} most none some call = go most none some
-    where
-      nothing : new ≡ old → after.items ≡ before.items → HasGot old new before.items after.items
-      nothing did same = record {
-        got = [];
-        items = same ∙ sym (append-nil before.items);
-        calls = subst (λ party. HasMadeCalls old party [] []) (sym did) (no_call old);
-      }
+      → HasReceivedMany receives most old before new after next → HasGot old new before.items after.items
+  has_got {old = old} call (many.Receives more) = record {
+    got = given_by more.first ++ more.taken;
+    items = more.gives.items;
+    calls = and_got more.taken
+        (and_call (no_call old) (call more.first more.between more.receive) refl (sym (given more.first))) more.made;
+  }
+  has_got call (many.HasNoRoom lacks did same is) = got_none did same
+  has_got call (many.NoneAsked none did same is) = got_none did (ap (λ list. list.items) same)
 
-      took : {most : ℕ} → HasReceivedMany receives most old before new after next → HasGot old new before.items after.items
-      took (many.AndMore more) = record {
-        got = given_by more.first ++ more.taken;
-        items = more.gives.items;
-        calls = and_got more.taken (and_call (no_call old) (call more.first more.between more.receive) refl (sym (given more.first))) more.made;
-      }
-      took (many.LacksRoom lacks did same is) = nothing did same
+  -- what a receive of many at once got
+  pub tried_got : {most : ℕ} {old new : P T A} {before after : Vec T A} {next : RecvNext ℕ}
+      → HasReceivedMany (HasStepped TryRecv after_try_recv) most old before new after next → HasGot old new before.items after.items
+  tried_got did = has_got
+      (λ first between tries. record { actions = _; call = TriesToReceive first tries.answered; made = tries.made }) did
 
-      go : (most : ℕ) → (most ≡ 0 → (new ≡ old) × (after ≡ before)) → (0 < most → HasReceivedMany receives most old before new after next)
-          → HasGot old new before.items after.items
-      go zero none some = let same = none refl in nothing same.0 (ap (λ list. list.items) same.1)
-      go (suc n) none some = took (some (omega arith))
-
-  -- what a receive got
-  pub ended_called : {old : P T A} (first : RecvNext T) (between : P T A) → HasReceivedAs old first between
+  -- what a receive as a call got
+  received_as : {old : P T A} (first : RecvNext T) (between : P T A) → HasReceivedAs old first between
       → HasCalled old between [] (got_by_try first)
-  ended_called (Done r) between did = received_called r did
-  ended_called (NeedSignal) between did = absurd did
-  ended_called (Park t) between did = absurd did
-  ended_called (Refused t) between did = absurd did
+  received_as (Done r) between did = received_called r did
+  received_as NeedSignal between did = absurd did
+  received_as (Park t) between did = absurd did
+  received_as (Refused t) between did = absurd did
 
-  -- what a try got
-  pub stepped_called : {old : P T A} (first : RecvNext T) (between : P T A) → HasStepped TryRecv after_try_recv old first between
-      → HasCalled old between [] (got_by_try first)
-  stepped_called first between did = record { actions = _; call = TriesToReceive first did.answered; made = did.made }
+  -- what a receive of many that may wait got
+  pub received_got : {most : ℕ} {old new : P T A} {before after : Vec T A} {next : RecvNext ℕ}
+      → HasReceivedMany HasReceivedAs most old before new after next → HasGot old new before.items after.items
+  received_got did = has_got received_as did

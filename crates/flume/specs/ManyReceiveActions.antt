@@ -1,6 +1,6 @@
 -- What a receive of many messages did, as its party's actions.
-use Rattle.std.specs.Prelude.{◌≡◌, ℕ, ◌+◌, ◌-◌, ◌<◌, List, [], ◌++◌, Err, Vec, vec_len}
-use Rattle.std.specs.Prelude.{vec_capacity}
+use Rattle.std.specs.Prelude.{◌≡◌, ℕ, ◌+◌, ◌-◌, ◌<◌, List, [], ◌++◌, Ok, Err, Vec}
+use Rattle.std.specs.Prelude.{vec_len, vec_capacity}
 use Rattle.flume_core.specs.declared.error.RecvTimeoutError.TheVariants.{NoMemory}
 use Rattle.flume_calls.specs.declared.calls.receive.RecvNext.{RecvNext}
 use Rattle.flume_calls.specs.declared.calls.receive.RecvNext.TheVariants.{Done}
@@ -34,11 +34,15 @@ module _ {T A : Type 0}
     pub made : new ≡ and_made between (each_got taken)
     pub gives : Gives before (most - 1) first taken after next
 
-  -- the same, or the list had no room for what was there, and the party did nothing
+  -- what a receive of many did
   pub data HasReceivedMany (most : ℕ) (old : PartyState (Action T A)) (before : Vec T A)
       (new : PartyState (Action T A)) (after : Vec T A) (next : RecvNext ℕ) : Type 0 where
-    AndMore : HasReceivedAndMore most old before.items new after.items next
+    Receives : HasReceivedAndMore most old before.items new after.items next
         → HasReceivedMany most old before new after next
-    LacksRoom : vec_capacity before < vec_len before + most → new ≡ old
+    -- the list had no room for what was there, and the party did nothing
+    HasNoRoom : vec_capacity before < vec_len before + most → new ≡ old
         → after.items ≡ before.items → next ≡ Done (Err NoMemory)
+        → HasReceivedMany most old before new after next
+    -- none was asked for, and the party did nothing
+    NoneAsked : most ≡ 0 → new ≡ old → after ≡ before → next ≡ Done (Ok 0)
         → HasReceivedMany most old before new after next

@@ -1,5 +1,5 @@
 -- Receives of many messages, as their callers see them.
-use Rattle.std.specs.Prelude.{◌≡◌, ℕ, ◌≤◌, List, ◌++◌, length, Ok}
+use Rattle.std.specs.Prelude.{◌≡◌, ℕ, ◌≤◌, List, ◌++◌, length}
 use Rattle.flume_calls.specs.declared.calls.receive.RecvNext.{RecvNext}
 use Rattle.flume_calls.specs.declared.calls.receive.RecvNext.TheVariants.{Done}
 use Rattle.flume_calls.specs.ManyReceives.{with_more}
@@ -12,11 +12,6 @@ module _ {T : Type 0} where
     pub number : length messages ≡ count
     pub at_most : count ≤ most
     pub some : count ≡ 0 → most ≡ 0
-
-  -- what the list holds after a turn, by its answer
-  abbrev pub GrowsBy : ℕ → List T → List T → RecvNext ℕ → Type 0
-  GrowsBy most before after (Done (Ok count)) = Appends most before after count
-  GrowsBy most before after _ = after ≡ before
 
   -- the answer is one of a turn of this kind, but for how many came
   pub record AnswersMany (answers : RecvNext T → Type 0) (next : RecvNext ℕ) : Type 0 where

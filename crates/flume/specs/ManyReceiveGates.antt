@@ -43,8 +43,8 @@ module _ {P T A : Type 0} (did : P → List (Action T A) → P → Type 0) where
         old.party next new.party
 
   -- a turn that makes these steps, and takes what is there behind a message that it gave
-  pub record TurnAndMoreOf (makes : List (Action T A) → RecvNext T → Type 0) (old new : ManyState P T A)
-      (next : RecvNext ℕ) : Type 0 where
+  pub record TurnAndMoreOf (makes : List (Action T A) → RecvNext T → Type 0)
+      (old new : ManyState P T A) (next : RecvNext ℕ) : Type 0 where
     pub most : new.most ≡ old.most
     pub turn : Did did (λ made next. MakesMore makes old.list (old.most - 1) made
         (record { buffer = new.list; next = next })) old.party next new.party

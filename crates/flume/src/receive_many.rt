@@ -5,7 +5,8 @@ ghost use Rattle.flume_deadline.specs.declared.Deadline.TheVariants.{Never};
 ghost use Rattle.flume.specs.CallSteps as answer;
 ghost use Rattle.flume.specs.ManyReceiveCalls.{Appends, AnswersMany, IsntDone};
 ghost use Rattle.flume.specs.ManyReceiveSteps.{ReceivesBatch, FindsNone, ReceivesMany};
-ghost use Rattle.flume.specs.ManyReceiveGates.{many_state, FirstManyOf, TurnAndMoreOf, ReceivesManyOf};
+ghost use Rattle.flume.specs.ManyReceiveGates.{many_state, FirstManyOf, TurnAndMoreOf};
+ghost use Rattle.flume.specs.ManyReceiveGates.{ReceivesManyOf};
 
 use crate::answers::{receive_answer, try_receive_answer};
 use crate::receiver::Receiver;

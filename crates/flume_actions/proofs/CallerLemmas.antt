@@ -47,6 +47,34 @@ module _ {T A : Type 0} where
         ∙ (λ i. party_of old.parts (append_assoc old.actions before.actions call.actions i)));
   }
 
+  same_calls : {some some' : List (Action T A)} {sent sent' got got' : List T} → some ≡ some'
+      → sent ≡ sent' → got ≡ got' → AreCalls some sent got → AreCalls some' sent' got'
+  same_calls some sent got calls =
+      subst (λ (all : List (Action T A) × List T × List T). AreCalls all.0 all.1 all.2)
+      (λ i. (some i, sent i, got i)) calls
+
+  both_calls : {some more : List (Action T A)} {sent sent' got got' : List T}
+      → AreCalls some sent got → AreCalls more sent' got'
+      → AreCalls (some ++ more) (sent ++ sent') (got ++ got')
+  both_calls {some = some} {sent = sent} {got = got} first NoCalls =
+      same_calls (sym (append-nil some)) (sym (append-nil sent)) (sym (append-nil got)) first
+  both_calls {some = some} {sent = sent} {got = got} first
+      (AndCall {before = before} {call = call} {sent = s} {sent' = s'} {got = g} {got' = g'} rest last) =
+      same_calls (append_assoc some before call) (append_assoc sent s s') (append_assoc got g g')
+      (AndCall (both_calls first rest) last)
+
+  -- several calls more
+  pub and_calls : {old new new' : PartyState (Action T A)} {sent sent' all_sent : List T}
+      {got got' all_got : List T} → HasMadeCalls old new sent got
+      → HasMadeCalls new new' sent' got' → all_sent ≡ sent ++ sent' → all_got ≡ got ++ got'
+      → HasMadeCalls old new' all_sent all_got
+  and_calls {old = old} before after sents gots = record {
+    actions = before.actions ++ after.actions;
+    calls = same_calls refl (sym sents) (sym gots) (both_calls before.calls after.calls);
+    made = after.made ∙ (ap (λ party. and_made party after.actions) before.made
+        ∙ (λ i. party_of old.parts (append_assoc old.actions before.actions after.actions i)));
+  }
+
   -- A party that took in others: what those sent and got by whole calls, the last first. Who sent
   -- nothing is left out of the first lists, and who got nothing of the second.
   pub record HasTakenIn (party : PartyState (Action T A)) (sents gots : List (List T)) : Type 0 where

@@ -18,7 +18,8 @@ use std::alloc::Allocator;
 use std::time::{Duration, Instant};
 
 impl<T: Drop, R: Waits, A: Allocator + Copy, J: ChannelName> Receiver<T, R, A, Traced<T, A, J>> {
-    /// As of a receiver without a trace. Each message is one `try_recv` of the party.
+    /// As of a receiver without a trace. The party makes a `try_recv` for each message, or one that
+    /// finds none. It makes no step if `buffer` can't grow, or if `most` is 0.
     pub fn try_recv_many(
         &self,
         me: &mut ChannelParty<T, J, A>,
@@ -26,7 +27,7 @@ impl<T: Drop, R: Waits, A: Allocator + Copy, J: ChannelName> Receiver<T, R, A, T
         most: usize,
     ) -> Result<usize, TryRecvError>
         ensures called { HasGot me.old me.new buffer.old.items buffer.new.items }
-        ensures made { 0 < most → HasReceivedMany (HasStepped TryRecv after_try_recv) most me.old
+        ensures made { HasReceivedMany (HasStepped TryRecv after_try_recv) most me.old
             buffer.old me.new buffer.new (answer.try_receive_as_turn result) }
         ensures appended { IfOk result (Appends most buffer.old.items buffer.new.items) }
         ensures unchanged { OnErr result (buffer.new.items ≡ buffer.old.items) }
@@ -37,8 +38,9 @@ impl<T: Drop, R: Waits, A: Allocator + Copy, J: ChannelName> Receiver<T, R, A, T
         self.try_recv_many_as(me, buffer, most)
     }
 
-    /// As of a receiver without a trace. The first message is a receive of the party, and each
-    /// other one a `try_recv`.
+    /// As of a receiver without a trace. The party makes a receive, and if that gave a message, a
+    /// `try_recv` for each one behind it. It makes no step if `most` is 0, or if there are messages
+    /// and `buffer` can't grow.
     pub fn recv_many(
         &self,
         me: &mut ChannelParty<T, J, A>,
@@ -46,7 +48,7 @@ impl<T: Drop, R: Waits, A: Allocator + Copy, J: ChannelName> Receiver<T, R, A, T
         most: usize,
     ) -> Result<usize, RecvError>
         ensures called { HasGot me.old me.new buffer.old.items buffer.new.items }
-        ensures made { 0 < most → HasReceivedMany HasReceivedAs most me.old buffer.old me.new buffer.new
+        ensures made { HasReceivedMany HasReceivedAs most me.old buffer.old me.new buffer.new
             (Done (answer.receive_as_timed result)) }
         ensures appended { IfOk result (Appends most buffer.old.items buffer.new.items) }
         ensures unchanged { OnErr result (buffer.new.items ≡ buffer.old.items) }
@@ -55,7 +57,7 @@ impl<T: Drop, R: Waits, A: Allocator + Copy, J: ChannelName> Receiver<T, R, A, T
         receive_answer(self.recv_many_until(me, buffer, most, Deadline::Never))
     }
 
-    /// As of a receiver without a trace. The steps are those of `recv_many`.
+    /// As of a receiver without a trace. The steps are as of `recv_many`.
     pub fn recv_many_deadline(
         &self,
         me: &mut ChannelParty<T, J, A>,
@@ -64,7 +66,7 @@ impl<T: Drop, R: Waits, A: Allocator + Copy, J: ChannelName> Receiver<T, R, A, T
         deadline: Instant,
     ) -> Result<usize, RecvTimeoutError>
         ensures called { HasGot me.old me.new buffer.old.items buffer.new.items }
-        ensures made { 0 < most → HasReceivedMany HasReceivedAs most me.old buffer.old me.new buffer.new
+        ensures made { HasReceivedMany HasReceivedAs most me.old buffer.old me.new buffer.new
             (Done result) }
         ensures appended { IfOk result (Appends most buffer.old.items buffer.new.items) }
         ensures unchanged { OnErr result (buffer.new.items ≡ buffer.old.items) }
@@ -73,7 +75,7 @@ impl<T: Drop, R: Waits, A: Allocator + Copy, J: ChannelName> Receiver<T, R, A, T
         self.recv_many_until(me, buffer, most, Deadline::At(deadline))
     }
 
-    /// As of a receiver without a trace. The steps are those of `recv_many`.
+    /// As of a receiver without a trace. The steps are as of `recv_many`.
     pub fn recv_many_timeout(
         &self,
         me: &mut ChannelParty<T, J, A>,
@@ -82,7 +84,7 @@ impl<T: Drop, R: Waits, A: Allocator + Copy, J: ChannelName> Receiver<T, R, A, T
         timeout: Duration,
     ) -> Result<usize, RecvTimeoutError>
         ensures called { HasGot me.old me.new buffer.old.items buffer.new.items }
-        ensures made { 0 < most → HasReceivedMany HasReceivedAs most me.old buffer.old me.new buffer.new
+        ensures made { HasReceivedMany HasReceivedAs most me.old buffer.old me.new buffer.new
             (Done result) }
         ensures appended { IfOk result (Appends most buffer.old.items buffer.new.items) }
         ensures unchanged { OnErr result (buffer.new.items ≡ buffer.old.items) }

@@ -3,17 +3,18 @@ use Rattle.std.proofs.Common.{subst}
 use Rattle.flume_calls.specs.declared.calls.receive.RecvNext.TheVariants.{Done}
 use Rattle.flume.specs.ManyReceiveActions.{HasReceivedAs, HasReceivedMany}
 use Rattle.flume.proofs.ManyReceiveLemmas.{waited_leaves, waited_none}
-use Rattle.flume.proofs.TracedReceiveLemmas.{many_received, has_got, ended_called}
+use Rattle.flume.proofs.TracedReceiveLemmas.{received_many, received_got}
 use Rattle.flume.proofs.traced.recv_many.Receiver+T+R+A+Traced+T+A+J.recv_many.Goals as goal
 
 pub returns-clause-made : goal.returns-clause-made
-returns-clause-made g c some =
+returns-clause-made g c =
+    let did = c.recv_many_until.ensures in
     subst (λ result. HasReceivedMany HasReceivedAs c.args.most c.args.me.now c.args.buffer.now c.recv_many_until.new.me
     c.recv_many_until.new.buffer (Done result)) c.receive_answer.ensures.outcome
-    (many_received some (c.recv_many_until.ensures.did some))
+    (received_many c.args.most did.nothing did.none did.did)
 
 pub returns-clause-called : goal.returns-clause-called
-returns-clause-called g c = has_got c.args.most c.recv_many_until.ensures.nothing (returns-clause-made g c) ended_called
+returns-clause-called g c = received_got (returns-clause-made g c)
 
 pub returns-clause-appended : goal.returns-clause-appended
 returns-clause-appended g c =
