@@ -48,7 +48,8 @@ module _ {T : Type 0} where
   }
 
   -- a batch of the last ones left some, and the first of those was sent by itself: those behind it are the last ones
-  pub behind_sent : (all now left behind : List T) (first : T) → IsEndOf all now → IsRest now left → left ≡ first ∷ behind → IsEndOf all behind
+  pub behind_sent : (all now left behind : List T) (first : T) → IsEndOf all now → IsRest now left → left ≡ first ∷ behind
+      → IsEndOf all behind
   behind_sent all now left behind first last rest is =
       behind_first all left behind first (last_of_rest all left (rest_of_all all now left last rest)) is
 

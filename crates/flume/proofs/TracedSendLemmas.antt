@@ -92,7 +92,8 @@ module _ {T A : Type 0} where
       → SendsMany messages made answer → new ≡ and_made old made → Batched start all new (try_result_list deque_items answer)
   batched {start = start} {new = new} {old = old} {before = before} calls is batch.NoneLeft did =
       subst (λ list. HasMadeCalls start new list []) (sym (is ∙ append-nil before))
-      (subst (λ party. HasMadeCalls start party before []) (sym (did ∙ ap (λ list. party_of old.parts list) (append-nil old.actions))) calls)
+      (subst (λ party. HasMadeCalls start party before []) (sym (did ∙ ap (λ list. party_of old.parts list) (append-nil old.actions)))
+      calls)
   batched {old = old} {before = before} calls is (batch.TakenIn {message = message} {rest = rest} {made = made} filled others) did =
       let step : Action T A = (TrySend message, reply.Sent filled) in
       let call : HasCalled old (and_made old (step ∷ [])) (message ∷ []) [] =
@@ -140,14 +141,15 @@ module _ {T A : Type 0} where
 
   -- the last ones of the messages, after the others
   then_many : {deadline : Deadline} {start old new : PartyState (Action T A)} {messages all : List T}
-      {result : Result (Unit {0}) (SendTimeoutError (List T))} {before : List T} → HasMadeCalls start old before [] → all ≡ before ++ messages
-      → SendsManyOf adds deadline old messages new result → HasSentMany start all new result
+      {result : Result (Unit {0}) (SendTimeoutError (List T))} {before : List T} → HasMadeCalls start old before []
+      → all ≡ before ++ messages → SendsManyOf adds deadline old messages new result → HasSentMany start all new result
   then_many {start = start} {old = old} {before = before} calls is many.NoneLeft =
       subst (λ list. HasMadeCalls start old list []) (sym (is ∙ append-nil before)) calls
   then_many calls is (many.AllTakenIn made) = batch_sent calls is made.1
   then_many calls is (many.IsClosed made) = let offer = batch_sent calls is made.1 in sent_first offer (tried offer.last) refl
   then_many calls is (many.IsRefused made) = let offer = batch_sent calls is made.1 in sent_first offer (tried offer.last) refl
-  then_many {start = start} {all = all} calls is (many.FirstComesBack {full = full} {behind = behind} {first = first} {error = error} made sends) =
+  then_many {start = start} {all = all} calls is
+      (many.FirstComesBack {full = full} {behind = behind} {first = first} {error = error} made sends) =
       let offer : Refused start all full (first ∷ behind) NeedSignal = batch_sent calls is made.1 in
       back_many error (λ back. sent_first offer (offer_sends offer sends.1) refl)
   then_many {start = start} {all = all} calls is (many.GoesOn {full = full} {behind = behind} {first = first} made sends rest) =

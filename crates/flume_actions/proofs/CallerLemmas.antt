@@ -70,7 +70,8 @@ module _ {T A : Type 0} where
       → HasMadeCalls old new' all_sent all_got
   and_calls {old = old} before after sents gots = record {
     actions = before.actions ++ after.actions;
-    calls = same_calls refl (sym sents) (sym gots) (both_calls before.calls after.calls);
+    calls = same_calls (λ i. before.actions ++ after.actions) (sym sents) (sym gots)
+        (both_calls before.calls after.calls);
     made = after.made ∙ (ap (λ party. and_made party after.actions) before.made
         ∙ (λ i. party_of old.parts (append_assoc old.actions before.actions after.actions i)));
   }

@@ -16,7 +16,8 @@ returns-clause-made g c = (
 pub returns-clause-did : goal.returns-clause-did
 returns-clause-did g c =
     let run = c.waiting_send.ensures.run c.new-gate.result (refl, refl) in
-    let same : c.waiting_send.new.gate.me.ghost_name ≡ c.new-gate.result.me.ghost_name = same_send (seen_send (λ gate. gate.me.ghost_name) (λ _ _ _ _ _ turn. turn.1) (λ _ _ _ turn. turn.1)
+    let same : c.waiting_send.new.gate.me.ghost_name ≡ c.new-gate.result.me.ghost_name =
+    same_send (seen_send (λ gate. gate.me.ghost_name) (λ _ _ _ _ _ turn. turn.1) (λ _ _ _ turn. turn.1)
     (λ _ _ _ _ found. ap (λ gate. gate.me.ghost_name) found.0) (λ _ _ _ turn. turn.1) (λ _ _ _ _ turn. turn.1) run) in
     let sends : SendsToFullOf g.K.Keeper.did c.args.me.now c.args.message c.waiting_send.new.gate.me.now c.waiting_send.result =
     after_first (c.new-gate.ensures.party, refl)
