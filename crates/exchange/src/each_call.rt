@@ -10,30 +10,43 @@ use std::marker::Brand;
 use std::random::RandomSource;
 use std::time::{Duration, Instant};
 
-/// Sends 1 to 14, and gives the party back.
-fn send_each<J: ChannelName, R: Runtime + RandomSource>(
+/// Sends lists: 1 to 8.
+fn send_lists<J: ChannelName, R: Runtime>(
     rt: R,
     alloc: Global,
+    tx: &TracedSender<u64, R, J>,
+    me: &mut ChannelParty<u64, J>,
+) -> io::Result<()> {
+    let now = Instant::now(&rt)?;
+    let messages = vec![in alloc; 1, 2]?;
+    tx.try_send_many(me, messages)?;
+    let messages = vec![in alloc; 3, 4]?;
+    tx.send_many(me, messages)?;
+    let messages = vec![in alloc; 5, 6]?;
+    tx.send_many_deadline(me, messages, now)?;
+    let messages = vec![in alloc; 7, 8]?;
+    tx.send_many_timeout(me, messages, Duration::ZERO)?;
+    Ok(())
+}
+
+/// Sends 9 to 13, one by one, and gives the party back.
+fn send_each<J: ChannelName, R: Runtime + RandomSource>(
+    rt: R,
     tx: TracedSender<u64, R, J>,
     mut me: ChannelParty<u64, J>,
 ) -> io::Result<ChannelParty<u64, J>> {
     let now = Instant::now(&rt)?;
-    tx.try_send(&mut me, 1)?;
-    tx.send_deadline(&mut me, 2, now)?;
-    tx.send_timeout(&mut me, 3, Duration::ZERO)?;
-    tx.try_send_many(&mut me, vec![in alloc; 4, 5]?)?;
-    tx.send_many(&mut me, vec![in alloc; 6, 7]?)?;
-    tx.send_many_deadline(&mut me, vec![in alloc; 8, 9]?, now)?;
-    tx.send_many_timeout(&mut me, vec![in alloc; 10, 11]?, Duration::ZERO)?;
-    let (mut me, sent) = block_on(&rt, tx.send_async(me, 12))?;
-    sent?;
+    tx.try_send(&mut me, 9)?;
+    tx.send_deadline(&mut me, 10, now)?;
+    tx.send_timeout(&mut me, 11, Duration::ZERO)?;
     let weak = tx.downgrade()?;
     if let Some(other) = weak.upgrade()? {
-        other.send(&mut me, 13)?;
+        other.send(&mut me, 12)?;
     }
     tx.confirm(&mut me);
-    let (me, sent) = block_on(&rt, tx.into_send_async(me, 14))?;
+    let (me, sent) = block_on(&rt, tx.send_async(me, 13))?;
     sent?;
+    let (me, _never_sent) = tx.into_send_async(me, 14).cancel();
     Ok(me)
 }
 
@@ -56,36 +69,45 @@ fn receive_each<J: ChannelName, R: Runtime>(
     Ok(())
 }
 
-/// Takes the others by iterators, futures and a drain.
-fn receive_others<J: ChannelName, R: Runtime + RandomSource>(
+/// Takes four by iterators, and gives the party back.
+fn receive_by_iterators<J: ChannelName, R: Runtime>(
     rt: R,
-    rx: TracedReceiver<u64, R, J>,
+    rx: &TracedReceiver<u64, R, J>,
     me: ChannelParty<u64, J>,
     items: &mut Vec<u64>,
-) -> io::Result<()> {
+) -> io::Result<ChannelParty<u64, J>> {
     let now = Instant::now(&rt)?;
     let mut messages = rx.try_iter(me);
     items.extend(messages.next())?;
-    let mut messages = rx.iter_timeout(messages.into_party(), Duration::from_secs(3600));
+    let me = messages.into_party();
+    let mut messages = rx.iter_timeout(me, Duration::from_secs(3600));
     items.extend(messages.next())?;
-    let mut messages = rx.iter_deadline(messages.into_party(), now);
+    let me = messages.into_party();
+    let mut messages = rx.iter_deadline(me, now);
     items.extend(messages.next())?;
-    let (me, message) = block_on(&rt, rx.recv_async(messages.into_party()))?;
+    let me = messages.into_party();
+    let mut messages = rx.clone()?.into_iter(me);
+    items.extend(messages.next())?;
+    Ok(messages.into_party())
+}
+
+/// Takes one by a future, and the others by a drain.
+fn receive_others<J: ChannelName, R: Runtime + RandomSource>(
+    rt: R,
+    rx: &TracedReceiver<u64, R, J>,
+    me: ChannelParty<u64, J>,
+    items: &mut Vec<u64>,
+) -> io::Result<()> {
+    let (me, message) = block_on(&rt, rx.recv_async(me))?;
     items.push(message?)?;
-    let other = rx.clone()?;
-    let (me, message) = block_on(&rt, other.into_recv_async(me))?;
-    items.push(message?)?;
-    let other = rx.clone()?;
-    let mut messages = other.into_iter(me);
-    items.extend(messages.next())?;
-    let mut me = messages.into_party();
+    let (mut me, _none) = rx.clone()?.into_recv_async(me).cancel();
     for message in rx.drain(&mut me)? {
         items.push(message)?;
     }
     Ok(())
 }
 
-/// What is received over this channel, of 1 to 14.
+/// What is received over this channel, of 1 to 13.
 pub fn each_call_named<J: ChannelName, R: Runtime + RandomSource>(
     rt: R,
     alloc: Global,
@@ -95,16 +117,18 @@ pub fn each_call_named<J: ChannelName, R: Runtime + RandomSource>(
     requires parts { channel.parts ≡ 2 }
 {
     let (tx, rx, mut me) = flume::on(rt).traced::<u64, J>(channel)?;
-    let other = me.split_off(1);
-    let sent = send_each(rt, alloc, tx, other)?;
+    let mut other = me.split_off(1);
+    send_lists(rt, alloc, &tx, &mut other)?;
+    let sent = send_each(rt, tx, other)?;
     me.merge(sent);
     let mut items = Vec::new(alloc);
     receive_each(rt, &rx, &mut me, &mut items)?;
-    receive_others(rt, rx, me, &mut items)?;
+    let me = receive_by_iterators(rt, &rx, me, &mut items)?;
+    receive_others(rt, &rx, me, &mut items)?;
     Ok(items)
 }
 
-/// What is received, of 1 to 14, by each call of traced ends.
+/// What is received, of 1 to 13, by each call of traced ends.
 pub fn each_call<R: Runtime + RandomSource>(rt: R, alloc: Global) -> io::Result<Vec<u64>> {
     each_call_named::<Brand, R>(rt, alloc, UnopenedChannel::unbounded(2))
 }

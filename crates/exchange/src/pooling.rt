@@ -105,15 +105,19 @@ where
         writer: right.split_off(1),
     };
     let collector = right.split_off(1);
-    let ran = run(rt, tx, sender, first, second, numbers)?;
+    let Ran {
+        sender,
+        first,
+        second,
+    } = run(rt, tx, sender, first, second, numbers)?;
     let collected = receive_all(alloc, from, collector)?;
-    left.merge(ran.sender);
-    left.merge(ran.first.reader);
-    left.merge(ran.second.reader);
-    right.merge(ran.first.writer);
-    right.merge(ran.second.writer);
+    left.merge(sender);
+    left.merge(first.reader);
+    left.merge(second.reader);
+    right.merge(first.writer);
+    right.merge(second.writer);
     right.merge(collected.me);
-    if !ran.first.rx.settle(&mut left) || !collected.rx.settle(&mut right) {
+    if !first.rx.settle(&mut left) || !collected.rx.settle(&mut right) {
         return Err(io::Error::new(ErrorKind::Other, "messages are left"));
     }
     Ok(collected.items)
