@@ -22,4 +22,3 @@ pub mod SendPolls
 pub mod PartySteps
 pub mod PartyIterators
 pub mod TracedSends
-pub mod TracedPolls
