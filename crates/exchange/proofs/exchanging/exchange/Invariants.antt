@@ -1,5 +1,5 @@
 use Rattle.exchange.proofs.exchanging.exchange.Given as goal
 
 -- the channel that was just made
-abbrev pub ghosts-exchange_named-J-ChannelName : goal.ghosts-exchange_named-J-ChannelName
-ghosts-exchange_named-J-ChannelName g a = record { identity = a.channel }
+abbrev pub ghosts-exchange_named : goal.ghosts-exchange_named
+ghosts-exchange_named g a = record { identity = a.channel }

@@ -6,11 +6,11 @@ use Rattle.exchange.proofs.piping.pipeline_named.Goals as goal
 
 pub returns : goal.returns
 returns g c =
-    let sender = c.split_off.ensures in
-    let reader = c.split_off-2.ensures in
-    let writer = c.split_off-writer.ensures in
+    let sender = c.split_off-sender.ensures in
+    let reader = c.split_off.ensures in
+    let writer = c.split_off-2.ensures in
     let collector = c.split_off-collector.ensures in
-    let ran = c.in_ok-ran.ensures in
+    let ran = c.in_ok-sent.ensures in
     let start = split_off (split_off (none_taken_in c.in_ok-tx.ensures.party) sender.rest)
     reader.rest in
     let left = take_in_receiver (take_in_sender start sender.new ran.sent.0 c.merge.ensures.merged)

@@ -5,7 +5,7 @@ use Rattle.exchange.proofs.threads.halve_all.Goals as goal
 
 pub loop-init : goal.loop-init
 loop-init g c =
-    record { numbers = []; got = no_call c.args.reader; sent = no_call c.args.writer }
+    record { numbers = []; got = no_call c.args.halver.reader; sent = no_call c.args.halver.writer }
 
 pub loop-preserved : goal.loop-preserved
 loop-preserved g c =
