@@ -18,6 +18,9 @@ mod TracedCallLemmas
 mod TracedSendLemmas
 -- What a receive of many of a party did, and what it got.
 mod TracedReceiveLemmas
+-- What a future with a party did, from poll to poll.
+mod TracedSendPollLemmas
+mod TracedReceivePollLemmas
 -- The arms of a list of sends, one for each pair so far.
 mod ArmListLemmas
 -- What a party did by a `next` of its iterator, as calls.

@@ -22,3 +22,4 @@ pub mod SendPolls
 pub mod PartySteps
 pub mod PartyIterators
 pub mod TracedSends
+pub mod TracedPolls

@@ -7,8 +7,14 @@ mod receive;
 mod send;
 mod sink;
 mod stream;
+mod traced_receive;
+mod traced_send;
+mod traced_stream;
 
 pub use receive::RecvFut;
 pub use send::SendFut;
 pub use sink::SendSink;
 pub use stream::RecvStream;
+pub use traced_receive::TracedRecvFut;
+pub use traced_send::TracedSendFut;
+pub use traced_stream::TracedRecvStream;
