@@ -29,24 +29,34 @@ fn send_lists<J: ChannelName, R: Runtime>(
     Ok(())
 }
 
-/// Sends 9 to 13, one by one, and gives the party back.
-fn send_each<J: ChannelName, R: Runtime + RandomSource>(
+/// Sends 9 to 12, one by one.
+fn send_each<J: ChannelName, R: Runtime>(
     rt: R,
-    tx: TracedSender<u64, R, J>,
-    mut me: ChannelParty<u64, J>,
-) -> io::Result<ChannelParty<u64, J>> {
+    tx: &TracedSender<u64, R, J>,
+    me: &mut ChannelParty<u64, J>,
+) -> io::Result<()> {
     let now = Instant::now(&rt)?;
-    tx.try_send(&mut me, 9)?;
-    tx.send_deadline(&mut me, 10, now)?;
-    tx.send_timeout(&mut me, 11, Duration::ZERO)?;
+    tx.try_send(me, 9)?;
+    tx.send_deadline(me, 10, now)?;
+    tx.send_timeout(me, 11, Duration::ZERO)?;
     let weak = tx.downgrade()?;
     if let Some(other) = weak.upgrade()? {
-        other.send(&mut me, 12)?;
+        other.send(me, 12)?;
     }
-    tx.confirm(&mut me);
+    tx.confirm(me);
+    Ok(())
+}
+
+/// Sends 13 by a future, and gives the party back.
+fn send_as_future<J: ChannelName, R: Runtime + RandomSource>(
+    rt: R,
+    tx: &TracedSender<u64, R, J>,
+    me: ChannelParty<u64, J>,
+) -> io::Result<ChannelParty<u64, J>> {
     let (me, sent) = block_on(&rt, tx.send_async(me, 13))?;
     sent?;
-    let (me, _never_sent) = tx.into_send_async(me, 14).cancel();
+    let (me, _never_sent) = tx.send_async(me, 14).cancel();
+    let (me, _nothing) = tx.sink(me).cancel();
     Ok(me)
 }
 
@@ -91,44 +101,44 @@ fn receive_by_iterators<J: ChannelName, R: Runtime>(
     Ok(messages.into_party())
 }
 
-/// Takes one by a future, and the others by a drain.
-fn receive_others<J: ChannelName, R: Runtime + RandomSource>(
+/// Takes one by a future, and gives the party back.
+fn receive_as_future<J: ChannelName, R: Runtime + RandomSource>(
     rt: R,
     rx: &TracedReceiver<u64, R, J>,
     me: ChannelParty<u64, J>,
     items: &mut Vec<u64>,
-) -> io::Result<()> {
+) -> io::Result<ChannelParty<u64, J>> {
     let (me, message) = block_on(&rt, rx.recv_async(me))?;
     items.push(message?)?;
-    let (mut me, _none) = rx.clone()?.into_recv_async(me).cancel();
-    for message in rx.drain(&mut me)? {
-        items.push(message)?;
-    }
-    Ok(())
+    let (me, _none) = rx.recv_async(me).cancel();
+    let (me, _none) = rx.stream(me).cancel();
+    Ok(me)
 }
 
-/// What is received over this channel, of 1 to 13.
+/// What is received over this channel, of 1 to 13; the last by a drain.
 pub fn each_call_named<J: ChannelName, R: Runtime + RandomSource>(
     rt: R,
     alloc: Global,
     channel: UnopenedChannel,
 ) -> io::Result<Vec<u64>>
     requires named { channel ≡ J.identity }
-    requires parts { channel.parts ≡ 2 }
+    requires parts { channel.parts ≡ 1 }
 {
     let (tx, rx, mut me) = flume::on(rt).traced::<u64, J>(channel)?;
-    let mut other = me.split_off(1);
-    send_lists(rt, alloc, &tx, &mut other)?;
-    let sent = send_each(rt, tx, other)?;
-    me.merge(sent);
+    send_lists(rt, alloc, &tx, &mut me)?;
+    send_each(rt, &tx, &mut me)?;
+    let mut me = send_as_future(rt, &tx, me)?;
     let mut items = Vec::new(alloc);
     receive_each(rt, &rx, &mut me, &mut items)?;
     let me = receive_by_iterators(rt, &rx, me, &mut items)?;
-    receive_others(rt, &rx, me, &mut items)?;
+    let mut me = receive_as_future(rt, &rx, me, &mut items)?;
+    for message in rx.drain(&mut me)? {
+        items.push(message)?;
+    }
     Ok(items)
 }
 
 /// What is received, of 1 to 13, by each call of traced ends.
 pub fn each_call<R: Runtime + RandomSource>(rt: R, alloc: Global) -> io::Result<Vec<u64>> {
-    each_call_named::<Brand, R>(rt, alloc, UnopenedChannel::unbounded(2))
+    each_call_named::<Brand, R>(rt, alloc, UnopenedChannel::unbounded(1))
 }

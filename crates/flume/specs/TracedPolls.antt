@@ -5,6 +5,7 @@ use Rattle.flume_core.specs.declared.error.RecvError.{RecvError}
 use Rattle.flume_core.specs.declared.error.RecvTimeoutError.{RecvTimeoutError}
 use Rattle.flume_calls.specs.declared.polled.send.PolledSend.{PolledSend}
 use Rattle.flume_calls.specs.declared.polled.send.PolledSend.TheVariants.{Unsent, Parked, Finished}
+use Rattle.flume.specs.declared.polled.traced_sink.Sending.{Sending}
 use Rattle.flume_party.specs.Parties.{PartyState, and_made}
 use Rattle.flume_actions.specs.Actions.{Action}
 use Rattle.flume_actions.specs.SendCalls.{IsBlockedPolls}
@@ -40,3 +41,15 @@ module _ {T A : Type 0} (start : PartyState (Action T A)) where
       (end : PartyState (Action T A)) → IsBlockedPolls ticket later result
       → end ≡ and_made now later → HasMadeCalls start end (sent_by message result) []
   CanSend message Finished now = ⊥
+
+module _ {T : Type 0} where
+  -- what a sink sent, by the answer to its poll: the message that it had, if it had one
+  abbrev pub sent_of : {E : Type 0} → Option (Sending T) → Result (Unit {0}) E → List T
+  sent_of None answer = []
+  sent_of (Some sending) answer = sent_by sending.message.value answer
+
+  -- as CanSend, of a sink, which has a message to send or none
+  abbrev pub CanSink : {A : Type 0} → PartyState (Action T A) → Option (Sending T)
+      → PartyState (Action T A) → Type 0
+  CanSink start None now = HasMadeCalls start now [] []
+  CanSink start (Some sending) now = CanSend start sending.message.value sending.send now

@@ -9,6 +9,7 @@ mod sink;
 mod stream;
 mod traced_receive;
 mod traced_send;
+mod traced_sink;
 mod traced_stream;
 
 pub use receive::RecvFut;
@@ -17,4 +18,5 @@ pub use sink::SendSink;
 pub use stream::RecvStream;
 pub use traced_receive::TracedRecvFut;
 pub use traced_send::TracedSendFut;
+pub use traced_sink::TracedSendSink;
 pub use traced_stream::TracedRecvStream;

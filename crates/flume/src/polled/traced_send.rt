@@ -55,7 +55,11 @@ impl<T: Drop, R: Waits, A: Allocator + Copy, J: ChannelName> Sender<T, R, A, Tra
 }
 
 impl<T: Drop, R: Waits, A: Allocator + Copy, J: ChannelName> Shared<T, R, A, Traced<T, A, J>> {
-    fn take_back(&self, me: &mut ChannelParty<T, J, A>, send: &mut PolledSend<T>) -> Result<(), T>
+    pub(crate) fn take_back(
+        &self,
+        me: &mut ChannelParty<T, J, A>,
+        send: &mut PolledSend<T>,
+    ) -> Result<(), T>
         ensures back { (start : PartyState (Action T A)) (message : T)
             → CanSend start message send.old me.old
             → HasMadeCalls start me.new (sent_by message result) [] }
