@@ -30,6 +30,8 @@ mod SentCourseLemmas
 mod SentOrderLemmas
 -- What whole calls sent is what they got.
 mod ExchangeLemmas
+-- What each receiver got of each sender.
+mod RouteLemmas
 -- The message that comes back from a call that sends is the one that it offered.
 mod ComesBackLemmas
 -- What callers cite: calls one after the other, and parties that become one again.

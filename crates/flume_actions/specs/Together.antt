@@ -15,6 +15,26 @@ module _ {X : Type 0} where
   abbrev pub AreExchanged : List (List X) → List (List X) → Type 0
   AreExchanged sents gots = (line : List X) × Interleaved sents line × Interleaved gots line
 
+  -- at each place, the last list is merged of the other two
+  pub data EachMerged : List (List X) → List (List X) → List (List X) → Type 0 where
+    NoList : EachMerged [] [] []
+    AndLists : {xs ys zs : List X} {lefts rights wholes : List (List X)} → Interleaving xs ys zs
+        → EachMerged lefts rights wholes
+        → EachMerged (xs ∷ lefts) (ys ∷ rights) (zs ∷ wholes)
+
+  -- each of the lists is empty
+  abbrev pub AreEmpty : List (List X) → Type 0
+  AreEmpty [] = Unit {0}
+  AreEmpty (xs ∷ lists) = (xs ≡ []) × AreEmpty lists
+
+  -- Each receiver's list is divided by who sent what. What the receivers got of a sender, merged, is
+  -- what that one sent; and what a receiver got of each sender, merged, is all that it got. So what
+  -- one receiver got of one sender stands in both lists, in the order of both.
+  abbrev pub AreRouted : List (List X) → List (List X) → Type 0
+  AreRouted [] gots = AreEmpty gots
+  AreRouted (sent ∷ sents) gots = (of_first of_others : List (List X)) × Interleaved of_first sent
+      × EachMerged of_first of_others gots × AreRouted sents of_others
+
 module _ {T A : Type 0} where
   -- each party's actions are whole calls, which sent and got the lists at its place
   pub data EachAreCalls : List (List (Action T A)) → List (List T) → List (List T) → Type 0 where

@@ -6,6 +6,7 @@ ghost use Rattle.flume_core.specs.declared.error.SendTimeoutError.{SendTimeoutEr
 ghost use Rattle.flume_actions.specs.Actions.{Action, IsWhole};
 ghost use Rattle.flume_actions.specs.SendCalls.{IsSend, IsPolledSend};
 ghost use Rattle.flume_actions.specs.Together.{Interleaved, EachAreCalls, AreExchanged};
+ghost use Rattle.flume_actions.specs.Together.{AreRouted};
 
 use std::alloc::Allocator;
 
@@ -16,6 +17,13 @@ pub fn what_was_sent_is_what_was_got<T, A: Allocator>()
     ensures law { (capacity : Option ℕ) (parties : List (List (Action T A))) (all : List (Action T A))
         (sents gots : List (List T)) → Interleaved parties all → EachAreCalls parties sents gots
         → IsWhole capacity all true → AreExchanged sents gots }
+{}
+
+/// If what some parties sent is what some parties got, in one line, then what one receiver got of one
+/// sender stands in the lists of both, in the order of both; and together these are all that was
+/// sent, and all that was got.
+pub fn each_pair_keeps_its_order<T>()
+    ensures law { (sents gots : List (List T)) → AreExchanged sents gots → AreRouted sents gots }
 {}
 
 /// If the actions of a call that sends are among those that parties did, then the message that

@@ -3,4 +3,6 @@
 
 mod laws;
 
-pub use laws::{what_comes_back_is_what_was_offered, what_was_sent_is_what_was_got};
+pub use laws::{
+    each_pair_keeps_its_order, what_comes_back_is_what_was_offered, what_was_sent_is_what_was_got,
+};
