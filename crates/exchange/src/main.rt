@@ -1,12 +1,14 @@
 //! Programs of threads and channels of which it is proved what comes out, whatever the schedule.
 #![tactic(auto)]
 
+mod asking;
 mod each_call;
 mod exchanging;
 mod piping;
 mod pooling;
 mod threads;
 
+use asking::ask;
 use each_call::each_call;
 use exchanging::exchange;
 use piping::pipeline;
@@ -27,5 +29,7 @@ fn main(rt: HostRuntime) -> io::Result<()> {
     println!(rt; "the halves, by a pool: {halves:?}")?;
     let items = each_call(rt, rt.alloc())?;
     println!(rt; "by each call: {items:?}")?;
+    let (first, second) = ask(rt, rt.alloc(), &first, &second)?;
+    println!(rt; "the replies: {first:?} {second:?}")?;
     Ok(())
 }

@@ -1,0 +1,23 @@
+use Rattle.std.proofs.Common.{sym}
+use Rattle.flume_actions.proofs.CallerLemmas.{none_taken_in, take_in_sender, take_in_receiver}
+use Rattle.flume_actions.proofs.CallerLemmas.{exchanged, same_in_order}
+use Rattle.exchange.proofs.asking.ask_named.Goals as goal
+
+pub returns : goal.returns
+returns g c =
+    let one = c.in_ok-one.ensures in
+    let other = c.in_ok-other.ensures in
+    let first = c.in_ok-one-2.ensures.first in
+    let second = c.in_ok-one-2.ensures.second in
+    let left = take_in_receiver (take_in_sender (none_taken_in one.rest) one.writer first.0
+    c.merge.ensures.merged) one.reader first.1.calls c.merge-2.ensures.merged in
+    let right = take_in_receiver (take_in_sender (none_taken_in other.rest) other.writer second.0
+    c.merge-3.ensures.merged) other.reader second.1.calls c.merge-4.ensures.merged in
+    let to_first = same_in_order (exchanged left c.if-not-settle.ensures.whole) in
+    let to_second = same_in_order (exchanged right c.if-not-settle-2.ensures.whole) in
+    record {
+      halved = (
+        rw (first.1.items, one.none) (sym to_first),
+        rw (second.1.items, other.none) (sym to_second),
+      );
+    }
