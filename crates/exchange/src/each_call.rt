@@ -1,7 +1,7 @@
 //! Each call of traced ends that isn't made elsewhere in this program, in one thread.
 ghost use Rattle.std.specs.Prelude.{◌≡◌};
 
-use flume::Runtime;
+use flume::{Runtime, Selector};
 use flume::traced::{ChannelName, ChannelParty, TracedReceiver, TracedSender, UnopenedChannel};
 use futures::executor::block_on;
 use std::alloc::Global;
@@ -55,7 +55,7 @@ fn send_as_future<J: ChannelName, R: Runtime + RandomSource>(
 ) -> io::Result<ChannelParty<u64, J>> {
     let (me, sent) = block_on(&rt, tx.send_async(me, 13))?;
     sent?;
-    let (me, _never_sent) = tx.send_async(me, 14).cancel();
+    let (me, _never_sent) = tx.send_async(me, 0).cancel();
     let (me, _nothing) = tx.sink(me).cancel();
     Ok(me)
 }
@@ -115,30 +115,49 @@ fn receive_as_future<J: ChannelName, R: Runtime + RandomSource>(
     Ok(me)
 }
 
-/// What is received over this channel, of 1 to 13; the last by a drain.
+/// Takes one more by a selection of two receives, of which one gets nothing.
+fn receive_by_selection<J: ChannelName, R: Runtime>(
+    rx: &TracedReceiver<u64, R, J>,
+    me: ChannelParty<u64, J>,
+    other: ChannelParty<u64, J>,
+    items: &mut Vec<u64>,
+) -> io::Result<ChannelParty<u64, J>> {
+    let arms = Selector::new()
+        .recv_by(rx, me, Result::ok)
+        .recv_by(rx, other, Result::ok);
+    let (message, (((), mut me), other)) = arms.wait_by();
+    me.merge(other);
+    items.extend(message?)?;
+    Ok(me)
+}
+
+/// What is received over this channel, of 1 to 14; the last by a drain.
 pub fn each_call_named<J: ChannelName, R: Runtime + RandomSource>(
     rt: R,
     alloc: Global,
     channel: UnopenedChannel,
 ) -> io::Result<Vec<u64>>
     requires named { channel ≡ J.identity }
-    requires parts { channel.parts ≡ 1 }
+    requires parts { channel.parts ≡ 2 }
 {
     let (tx, rx, mut me) = flume::on(rt).traced::<u64, J>(channel)?;
+    let other = me.split_off(1);
     send_lists(rt, alloc, &tx, &mut me)?;
     send_each(rt, &tx, &mut me)?;
     let mut me = send_as_future(rt, &tx, me)?;
+    tx.send(&mut me, 14)?;
     let mut items = Vec::new(alloc);
     receive_each(rt, &rx, &mut me, &mut items)?;
     let me = receive_by_iterators(rt, &rx, me, &mut items)?;
-    let mut me = receive_as_future(rt, &rx, me, &mut items)?;
+    let me = receive_as_future(rt, &rx, me, &mut items)?;
+    let mut me = receive_by_selection(&rx, me, other, &mut items)?;
     for message in rx.drain(&mut me)? {
         items.push(message)?;
     }
     Ok(items)
 }
 
-/// What is received, of 1 to 13, by each call of traced ends.
+/// What is received, of 1 to 14, by each call of traced ends.
 pub fn each_call<R: Runtime + RandomSource>(rt: R, alloc: Global) -> io::Result<Vec<u64>> {
-    each_call_named::<Brand, R>(rt, alloc, UnopenedChannel::unbounded(1))
+    each_call_named::<Brand, R>(rt, alloc, UnopenedChannel::unbounded(2))
 }

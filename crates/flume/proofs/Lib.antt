@@ -25,3 +25,10 @@ mod TracedReceivePollLemmas
 mod ArmListLemmas
 -- What a party did by a `next` of its iterator, as calls.
 mod PartyIteratorLemmas
+-- No message is handed to a receiver that parked as an arm.
+mod UnfilledArmLemmas
+-- What the party of an arm did, from turn to turn.
+mod ReceiveArmLemmas
+mod SendArmLemmas
+-- After a selection no arm has a message but the one that completed.
+mod SelectionIdleLemmas

@@ -1,5 +1,5 @@
 -- A selection through the gate of a selector is one of its arms, up to its deadline.
-use Rattle.std.proofs.Common.{◌≡◌, ℕ, Bool, true, false, Option, None, Some, IsSome, IfSome, Result, Ok, refl, ◌∙◌, ap, subst}
+use Rattle.std.proofs.Common.{◌≡◌, ℕ, Bool, true, false, Option, None, Some, IsSome, IfSome, Result, Ok, Err, refl, ◌∙◌, ap, subst}
 use Rattle.flume_core.specs.declared.error.NoMemory.{NoMemory}
 use Rattle.flume_core.specs.declared.error.SelectError.{SelectError}
 use Rattle.flume_calls.specs.declared.gates.select.ArmNext.{ArmNext}
@@ -8,7 +8,8 @@ use Rattle.flume_calls.specs.SelectGates.{Waiting, IsRound, Withdraws, EndsAfter
 use Rattle.flume_deadline.specs.declared.Deadline.{Deadline}
 use Rattle.flume.specs.GateSteps.{WaitsUpTo}
 use Rattle.flume.specs.Selections.{first_arm}
-use Rattle.flume.specs.SelectionCalls.{LeavesArms, WaitsForArms, TriesArms, AwaitsArms, Tries}
+use Rattle.flume.specs.SelectionCalls as call
+use Rattle.flume.specs.SelectionCalls.{LeavesArms, WaitsForArms, TriesArms, AwaitsArms, Tries, Races, Selects}
 use Rattle.flume.specs.declared.select.Selector.{Selector}
 
 module _ {V L A : Type 0} where
@@ -125,3 +126,17 @@ module _ {L V : Type 0} {turns : Bool → L → ℕ → L → ArmNext → Type 0
       → IfSome value (answers new arm) → Tries turns answers count start old (Ok value)
   tried_value (Some value) run some answered = Tries.Completed run answered
   tried_value None run some answered = absurd (let none : ⊥ = cc in none)
+
+module _ {L V : Type 0} {turns : Bool → L → ℕ → L → ArmNext → Type 0} {withdraws : L → ℕ → L → Type 0}
+    {answers : L → ℕ → V → Type 0} {count start : ℕ} {deadline : Deadline} where
+  -- a wait that failed
+  pub race_failed : {old new : L} {error : SelectError} → Races turns withdraws count start deadline old new (Err error)
+      → Selects turns withdraws answers count start deadline old (Err error)
+  race_failed (call.Races.Refused tried) = Selects.Refused (Tries.Refused tried)
+  race_failed (call.Races.Awaited tried waited) = Selects.Failed tried waited
+
+  -- a wait that gives the value of the arm that completed
+  pub race_won : {old new : L} {arm : ℕ} {value : V} → Races turns withdraws count start deadline old new (Ok arm)
+      → answers new arm value → Selects turns withdraws answers count start deadline old (Ok value)
+  race_won (call.Races.AtOnce tried) answered = Selects.AtOnce (Tries.Completed tried answered)
+  race_won (call.Races.Awaited tried waited) answered = Selects.Won tried waited answered

@@ -1,9 +1,12 @@
 pub mod ArmLists
+pub mod ArmParties
 pub mod ArmStates
 pub mod ArmTurns
 pub mod Builders
 pub mod CallSteps
 pub mod GateSteps
+pub mod IdleArms
+pub mod IdleLists
 pub mod Iterators
 pub mod LockedPolls
 pub mod LockedTurns
@@ -17,9 +20,11 @@ pub mod ManySendSteps
 pub mod OwnedEnds
 pub mod ReceivePolls
 pub mod SelectionCalls
+pub mod SelectionParties
 pub mod Selections
 pub mod SendPolls
 pub mod PartySteps
 pub mod PartyIterators
 pub mod TracedSends
 pub mod TracedPolls
+pub mod TracedArms

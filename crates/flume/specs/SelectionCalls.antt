@@ -29,6 +29,20 @@ module _ {L : Type 0} (turns : Bool → L → ℕ → L → ArmNext → Type 0) 
   AwaitsArms withdraws deadline = WholeSelection LeavesArms (turns true) (WaitsForArms deadline)
       withdraws count (first_arm count start)
 
+module _ {L : Type 0} (turns : Bool → L → ℕ → L → ArmNext → Type 0)
+    (withdraws : L → ℕ → L → Type 0) (count start : ℕ) where
+  -- A wait for these arms, up to this deadline, and the arm that completed: a try, and if each arm
+  -- would have to wait, they are started and waited for.
+  pub data Races (deadline : Deadline) (old new : L) : Result ℕ SelectError → Type 0 where
+    AtOnce : {arm : ℕ} → TriesArms turns count start old new (Ok (Some arm))
+        → Races deadline old new (Ok arm)
+    Refused : TriesArms turns count start old new (Err (record {}))
+        → Races deadline old new (Err select.NoMemory)
+    Awaited : {tried : L} {result : Result ℕ SelectError}
+        → TriesArms turns count start old tried (Ok None)
+        → AwaitsArms turns count start withdraws deadline tried new result
+        → Races deadline old new result
+
 module _ {L V : Type 0} (turns : Bool → L → ℕ → L → ArmNext → Type 0)
     (answers : L → ℕ → V → Type 0) (count start : ℕ) where
   -- A try of a selector with these arms: the value is what the mapper of the arm that completed

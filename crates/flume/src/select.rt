@@ -5,7 +5,8 @@ ghost use Rattle.flume.specs.declared.select.send.SendState.{SendState};
 ghost use Rattle.flume.specs.declared.select.receive.ReceiveState.{ReceiveState};
 ghost use Rattle.flume.specs.Selections.{IsValue, first_arm};
 ghost use Rattle.flume.specs.GateSteps.{WaitsUpTo};
-ghost use Rattle.flume.specs.SelectionCalls.{Tries, Selects, wait_as_timed};
+ghost use Rattle.flume.specs.SelectionCalls.{Races, Selects, Tries, wait_as_timed};
+ghost use Rattle.flume_calls.specs.SelectGates.{HasCompleted};
 ghost use Rattle.flume_deadline.specs.declared.Deadline.{Deadline};
 ghost use Rattle.flume_deadline.specs.declared.Deadline.TheVariants.{Never};
 ghost use Rattle.flume_deadline.specs.Deadlines.{IsAfter};
@@ -14,8 +15,14 @@ mod adding;
 mod arms;
 mod each;
 mod error;
+mod parties;
 mod receive;
+mod recv_arm;
 mod send;
+mod send_arm;
+mod traced_recv_arm;
+mod traced_send_arm;
+mod waits_by;
 
 use crate::receiver::Receiver;
 use crate::sender::Sender;
@@ -28,17 +35,20 @@ use flume_calls::gates::{ArmNext, SelectGate, select_over, try_select_over};
 pub use flume_core::error::SelectError;
 use flume_core::error::{NoMemory, RecvError, SendError};
 use flume_deadline::Deadline;
+pub use parties::{ArmBy, ArmsBy};
 use rand::RngExt;
 use rand::distr::uniform::SampleRange;
 use rand_core::Rng;
-pub use receive::RecvArm;
-pub use send::SendArm;
+pub use recv_arm::RecvArm;
+pub use send_arm::SendArm;
 use std::alloc::{Allocator, Global};
 use std::fmt;
 use std::marker::PhantomData;
 use std::ops::Range;
 use std::sync::Arc;
 use std::time::{Duration, Instant};
+pub use traced_recv_arm::TracedRecvArm;
+pub use traced_send_arm::TracedSendArm;
 
 /// Waits for the first of several sends and receives, its *arms*, on channels of any types. Each
 /// arm has a *mapper* from its result to a `V`; only that of the arm that completes is called. The
@@ -89,8 +99,8 @@ impl<'a, V, L: Arms<V, A> + Drop, A: Allocator + Copy> Selector<'a, V, L, A> {
     where
         F: FnOnce(Result<(), SendError<T>>) -> V + Drop,
         ensures before { result.arms.0 ≡ self.entry.arms }
-        ensures channel { result.arms.1.sender.now ≡ sender.now }
-        ensures unstarted { result.arms.1.state ≡ SendState.Unstarted message }
+        ensures channel { result.arms.1.arm.sender.now ≡ sender.now }
+        ensures unstarted { result.arms.1.arm.state ≡ SendState.Unstarted message }
         ensures mapper { result.arms.1.mapper ≡ mapper }
         ensures start { result.start ≡ self.entry.start }
     {
@@ -106,8 +116,8 @@ impl<'a, V, L: Arms<V, A> + Drop, A: Allocator + Copy> Selector<'a, V, L, A> {
     where
         F: FnOnce(Result<T, RecvError>) -> V + Drop,
         ensures before { result.arms.0 ≡ self.entry.arms }
-        ensures channel { result.arms.1.receiver.now ≡ receiver.now }
-        ensures unstarted { result.arms.1.state ≡ ReceiveState.Unstarted }
+        ensures channel { result.arms.1.arm.receiver.now ≡ receiver.now }
+        ensures unstarted { result.arms.1.arm.state ≡ ReceiveState.Unstarted }
         ensures mapper { result.arms.1.mapper ≡ mapper }
         ensures start { result.start ≡ self.entry.start }
     {
@@ -203,7 +213,6 @@ impl<'a, V, L: AtLeastOneArm<V, A> + Drop, A: Allocator + Copy> Selector<'a, V, 
         }
     }
 
-    // Tried before the parker is made: a selection that is ready at once makes none.
     fn select(mut self, deadline: Deadline) -> Result<V, SelectError>
         requires can_map { L.can_map (L.mappers self.arms) }
         ensures value { IfOk result (IsValue L.count L.maps (L.mappers self.entry.arms)) }
@@ -211,16 +220,29 @@ impl<'a, V, L: AtLeastOneArm<V, A> + Drop, A: Allocator + Copy> Selector<'a, V, 
             self.entry.start deadline self.entry.arms result }
         ensures in_time { deadline ≡ Never → result ≢ Err SelectError.Timeout }
     {
-        let rt = self.arms.runtime();
-        self.deadline = deadline;
-        let arm = match try_select_over(&mut self) {
-            Ok(Some(ready)) => ready,
-            Ok(None) => select_over(&rt, &mut self)?,
-            Err(NoMemory) => return Err(SelectError::NoMemory),
-        };
+        let arm = self.race(deadline)?;
         match self.arms.value(arm) {
             Some(value) => Ok(value),
             None => unreachable!(),
+        }
+    }
+
+    // Tried before the parker is made: a selection that is ready at once makes none.
+    #[inline(always)]
+    fn race(&mut self, deadline: Deadline) -> Result<usize, SelectError>
+        ensures run { Races L.turns L.withdraws (L.count (L.mappers self.old.arms)) self.old.start
+            deadline self.old.arms self.new.arms result }
+        ensures completed { IfOk result (HasCompleted L.has_completed
+            (L.count (L.mappers self.old.arms)) self.new.arms) }
+        ensures mappers { L.mappers self.new.arms ≡ L.mappers self.old.arms }
+        ensures in_time { deadline ≡ Never → result ≢ Err SelectError.Timeout }
+    {
+        let rt = self.arms.runtime();
+        self.deadline = deadline;
+        match try_select_over(self) {
+            Ok(Some(ready)) => Ok(ready),
+            Ok(None) => select_over(&rt, self),
+            Err(NoMemory) => Err(SelectError::NoMemory),
         }
     }
 }

@@ -11,8 +11,8 @@ use crate::select::Selector;
 use crate::select::arms::{Arms, ArmsOn};
 use crate::select::each::Each;
 use crate::select::error::EachError;
-use crate::select::receive::RecvArm;
-use crate::select::send::SendArm;
+use crate::select::recv_arm::RecvArm;
+use crate::select::send_arm::SendArm;
 use crate::sender::Sender;
 use crate::shared::Waits;
 use flume_core::error::{RecvError, SendError};
@@ -57,8 +57,8 @@ impl<'a, V, L: Arms<V, A> + Drop, A: Allocator + Copy> Selector<'a, V, L, A> {
         F: FnOnce(usize, Result<T, RecvError>) -> V + Drop,
         ensures before { IfOk result (λ more. more.arms.before ≡ self.entry.arms) }
         ensures channels { IfOk result (λ more.
-            map (λ arm. arm.receiver.now) more.arms.arms.items ≡ receivers.now) }
-        ensures unstarted { IfOk result (λ more. map (λ arm. arm.state) more.arms.arms.items
+            map (λ arm. arm.arm.receiver.now) more.arms.arms.items ≡ receivers.now) }
+        ensures unstarted { IfOk result (λ more. map (λ arm. arm.arm.state) more.arms.arms.items
             ≡ map (λ _. ReceiveState.Unstarted) receivers.now) }
         ensures mapper { IfOk result (λ more. more.arms.mapper ≡ mapper) }
         ensures count { IfOk result (λ more. non_zero_usize_get more.arms.count
@@ -93,9 +93,9 @@ impl<'a, V, L: Arms<V, A> + Drop, A: Allocator + Copy> Selector<'a, V, L, A> {
         L: ArmsOn<R, V, A>,
         F: FnOnce(usize, Result<(), SendError<T>>) -> V + Drop,
         ensures before { IfOk result (λ more. more.arms.before ≡ self.entry.arms) }
-        ensures channels { IfOk result (λ more. map (λ arm. arm.sender.now) more.arms.arms.items
+        ensures channels { IfOk result (λ more. map (λ arm. arm.arm.sender.now) more.arms.arms.items
             ≡ map (λ pair. pair.0.now) sends.entry.items) }
-        ensures unstarted { IfOk result (λ more. map (λ arm. arm.state) more.arms.arms.items
+        ensures unstarted { IfOk result (λ more. map (λ arm. arm.arm.state) more.arms.arms.items
             ≡ map (λ pair. SendState.Unstarted pair.1) sends.entry.items) }
         ensures mapper { IfOk result (λ more. more.arms.mapper ≡ mapper) }
         ensures count { IfOk result (λ more. non_zero_usize_get more.arms.count
@@ -150,8 +150,8 @@ fn receive_arms<'a, T: Drop, R: Waits, A: Allocator + Copy>(
     alloc: A,
 ) -> Result<Vec<RecvArm<'a, T, (), R, A>, A>, AllocError>
     ensures channels { IfOk result (λ arms.
-        map (λ arm. arm.receiver.now) arms.items ≡ receivers.now) }
-    ensures unstarted { IfOk result (λ arms. map (λ arm. arm.state) arms.items
+        map (λ arm. arm.arm.receiver.now) arms.items ≡ receivers.now) }
+    ensures unstarted { IfOk result (λ arms. map (λ arm. arm.arm.state) arms.items
         ≡ map (λ _. ReceiveState.Unstarted) receivers.now) }
 {
     let mut arms = Vec::with_capacity(alloc, receivers.len())?;
@@ -165,9 +165,9 @@ fn send_arms<'a, T: Drop, R: Waits, A: Allocator + Copy>(
     sends: Vec<(&'a Sender<T, R, A>, T), A>,
     alloc: A,
 ) -> Result<Vec<SendArm<'a, T, (), R, A>, A>, AllocError>
-    ensures channels { IfOk result (λ arms. map (λ arm. arm.sender.now) arms.items
+    ensures channels { IfOk result (λ arms. map (λ arm. arm.arm.sender.now) arms.items
         ≡ map (λ pair. pair.0.now) sends.entry.items) }
-    ensures unstarted { IfOk result (λ arms. map (λ arm. arm.state) arms.items
+    ensures unstarted { IfOk result (λ arms. map (λ arm. arm.arm.state) arms.items
         ≡ map (λ pair. SendState.Unstarted pair.1) sends.entry.items) }
 {
     let mut arms = Vec::with_capacity(alloc, sends.len())?;

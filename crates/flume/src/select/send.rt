@@ -1,14 +1,13 @@
-//! A send as an arm of a selector.
-ghost use Rattle.std.specs.Prelude.{◌≡◌, IsSome};
+//! A send as an arm of a selector, of either kind of sender.
+ghost use Rattle.std.specs.Prelude.{◌≡◌, IfSome, IsSome, is_some};
 ghost use Rattle.flume_calls.specs.declared.gates.select.ArmNext.{ArmNext};
 ghost use Rattle.flume.specs.declared.select.send.SendState.{SendState};
-ghost use Rattle.flume.specs.ArmStates.{CompletesSend, send_result};
-ghost use Rattle.flume.specs.ArmStates.{IsArmSend, IsAfterSend};
-ghost use Rattle.flume.specs.ArmTurns.{SendTurn, WithdrawsSend, StartsSend, PollsSend};
-ghost use Rattle.flume.specs.ArmTurns.{TriesSend, HasWithdrawnSend};
-ghost use Rattle.flume.specs.Selections.{CanMap, Maps, MapsResult, CanMapEach, MapsEach};
+ghost use Rattle.flume.specs.ArmParties.{PollsSendOf, SendTurnOf, StartsSendOf, TriesSendOf};
+ghost use Rattle.flume.specs.ArmParties.{WithdrawsSendOf};
+ghost use Rattle.flume.specs.ArmStates.{CompletesSend, IsAfterSend, IsArmSend, send_result};
+ghost use Rattle.flume.specs.ArmTurns.{HasWithdrawnSend, PollsSend, SendTurn, StartsSend};
+ghost use Rattle.flume.specs.ArmTurns.{TriesSend, WithdrawsSend};
 
-use crate::select::arms::{Arm, ArmTurns, ListedArm};
 use crate::sender::Sender;
 use crate::shared::Waits;
 use crate::signal::{ArmSignal, Parker, Signal};
@@ -16,13 +15,13 @@ use flume_calls::calls::{AgainSend, FirstSend, ParkSend, SendCall, SendNext};
 use flume_calls::gates::ArmNext;
 use flume_core::error::SendError;
 use flume_core::error::SendTimeoutError::{Disconnected, NoMemory, Timeout};
-use flume_keeper::NoParty;
-use std::alloc::{Allocator, Global};
+use flume_keeper::Keeper;
+use std::alloc::Allocator;
 use std::mem::replace;
 use std::sync::Arc;
 
 #[derive(Drop)]
-enum SendState<T> {
+pub(crate) enum SendState<T> {
     Unstarted(T),
     Parked(SendCall),
     // `Err`: the channel is closed.
@@ -31,30 +30,44 @@ enum SendState<T> {
     Finished,
 }
 
-/// An arm that sends: `Selector::send`.
-#[derive(Drop)]
-pub struct SendArm<'a, T, F, R: Waits, A: Allocator + Copy = Global> {
-    sender: &'a Sender<T, R, A>,
-    state: SendState<T>,
-    mapper: F,
+impl<T: Drop> SendState<T> {
+    pub(crate) fn into_result(self) -> Option<Result<(), SendError<T>>>
+        ensures result { result ≡ send_result self }
+        ensures completes { IfSome result CompletesSend }
+    {
+        match self {
+            SendState::Completed(Ok(())) => Some(Ok(())),
+            SendState::Completed(Err(back)) => Some(Err(SendError::Disconnected(back))),
+            _ => None,
+        }
+    }
 }
 
-impl<'a, T: Drop, F: Drop, R: Waits, A: Allocator + Copy> SendArm<'a, T, F, R, A> {
-    pub(crate) fn new(sender: &'a Sender<T, R, A>, message: T, mapper: F) -> Self
+// What `SendArm` and `TracedSendArm` have in common.
+#[derive(Drop)]
+pub(crate) struct OfferArm<'a, T, R: Waits, A: Allocator + Copy, K: Keeper<T, A>> {
+    pub(crate) sender: &'a Sender<T, R, A, K>,
+    pub(crate) state: SendState<T>,
+    pub(crate) me: K::Party,
+}
+
+impl<'a, T: Drop, R: Waits, A: Allocator + Copy, K: Keeper<T, A>> OfferArm<'a, T, R, A, K> {
+    pub(crate) fn new(sender: &'a Sender<T, R, A, K>, me: K::Party, message: T) -> Self
         ensures channel { result.sender.now ≡ sender.now }
         ensures unstarted { result.state ≡ SendState.Unstarted message }
-        ensures mapper { result.mapper ≡ mapper }
+        ensures party { result.me ≡ me }
     {
-        SendArm {
+        OfferArm {
             sender,
             state: SendState::Unstarted(message),
-            mapper,
+            me,
         }
     }
 
     fn start(&mut self, message: T, number: usize, parker: &Arc<Parker, A>) -> ArmNext
         ensures does { StartsSend A message result self.new.state }
-        ensures mapper { self.new.mapper ≡ self.old.mapper }
+        ensures did { StartsSendOf K.did message self.old.me result self.new.state self.new.me }
+        ensures channel { self.new.sender ≡ self.old.sender }
     {
         let Some(signal) = ArmSignal::new(parker, number) else {
             self.state = SendState::Finished;
@@ -63,7 +76,7 @@ impl<'a, T: Drop, F: Drop, R: Waits, A: Allocator + Copy> SendArm<'a, T, F, R, A
         let signal = Signal::Arm(signal);
         let shared = self.sender.shared();
         let (state, answer) = next_state(shared.call_cold(
-            &mut NoParty,
+            &mut self.me,
             ParkSend { message, signal },
         ));
         self.state = state;
@@ -72,39 +85,76 @@ impl<'a, T: Drop, F: Drop, R: Waits, A: Allocator + Copy> SendArm<'a, T, F, R, A
 
     fn attempt(&mut self, message: T) -> ArmNext
         ensures does { TriesSend A message result self.new.state }
-        ensures mapper { self.new.mapper ≡ self.old.mapper }
+        ensures did { TriesSendOf K.did message self.old.me result self.new.state self.new.me }
+        ensures channel { self.new.sender ≡ self.old.sender }
     {
-        let (state, answer) = next_state(
-            self.sender
-                .shared()
-                .call_cold(&mut NoParty, FirstSend { message }),
-        );
+        let shared = self.sender.shared();
+        let (state, answer) = next_state(shared.call_cold(&mut self.me, FirstSend { message }));
         self.state = state;
         answer
     }
 
     fn poll(&mut self, call: SendCall) -> ArmNext
         ensures does { PollsSend A call result self.new.state }
-        ensures mapper { self.new.mapper ≡ self.old.mapper }
+        ensures did { PollsSendOf K.did call self.old.me result self.new.state self.new.me }
+        ensures channel { self.new.sender ≡ self.old.sender }
     {
         let (last, signal) = (false, None);
         let shared = self.sender.shared();
         let (state, answer) = next_state(shared.call_cold(
-            &mut NoParty,
+            &mut self.me,
             AgainSend { call, last, signal },
         ));
         self.state = state;
         answer
     }
 
-    fn take_back(&self, call: SendCall)
+    fn take_back(&mut self, call: SendCall)
         ensures withdrawn { HasWithdrawnSend T A call }
+        ensures did { WithdrawsSendOf K.did (SendState.Parked call) self.old.me SendState.Finished
+            self.new.me }
+        ensures channel { self.new.sender ≡ self.old.sender }
+        ensures state { self.new.state ≡ self.old.state }
     {
         let (last, signal) = (true, None);
         let shared = self.sender.shared();
-        match shared.call_cold(&mut NoParty, AgainSend { call, last, signal }) {
+        match shared.call_cold(&mut self.me, AgainSend { call, last, signal }) {
             SendNext::Done(result) => drop(result),
             _ => unreachable!(),
+        }
+    }
+
+    pub(crate) fn turn(&mut self, number: usize, parker: Option<&Arc<Parker, A>>) -> ArmNext
+        ensures does { SendTurn A (is_some parker.entry) self.old.state result self.new.state }
+        ensures did { SendTurnOf K.did (is_some parker.entry) self.old.state self.old.me result
+            self.new.state self.new.me }
+        ensures completed { result ≡ ArmNext.Completed → IsSome (send_result self.new.state) }
+        ensures channel { self.new.sender ≡ self.old.sender }
+    {
+        match replace(&mut self.state, SendState::Finished) {
+            SendState::Unstarted(message) => match parker {
+                Some(parker) => self.start(message, number, parker),
+                None => self.attempt(message),
+            },
+            SendState::Parked(call) => self.poll(call),
+            SendState::Completed(result) => {
+                self.state = SendState::Completed(result);
+                ArmNext::Completed
+            }
+            SendState::Finished => ArmNext::NoMemory,
+        }
+    }
+
+    pub(crate) fn withdraw(&mut self)
+        ensures does { WithdrawsSend A self.old.state self.new.state }
+        ensures did { WithdrawsSendOf K.did self.old.state self.old.me self.new.state self.new.me }
+        ensures completed { IsSome (send_result self.old.state)
+            → IsSome (send_result self.new.state) }
+        ensures channel { self.new.sender ≡ self.old.sender }
+    {
+        match replace(&mut self.state, SendState::Finished) {
+            SendState::Parked(call) => self.take_back(call),
+            other => self.state = other,
         }
     }
 }
@@ -122,97 +172,5 @@ fn next_state<T: Drop>(next: SendNext<T>) -> (SendState<T>, ArmNext)
         }
         SendNext::Done(Err(NoMemory(_))) => (SendState::Finished, ArmNext::NoMemory),
         SendNext::Done(Err(Timeout(_))) => unreachable!(),
-    }
-}
-
-impl<'a, T: Drop, F: Drop, R: Waits, A: Allocator + Copy> ArmTurns<A> for SendArm<'a, T, F, R, A> {
-    type Runtime = R;
-
-    type Mapper = F;
-
-    ghost mapper = { λ arm. arm.mapper };
-
-    ghost has_completed = { λ arm. IsSome (send_result arm.state) };
-
-    ghost turns = { λ parks old next new.
-        SendTurn A parks old.state next new.state × (new.mapper ≡ old.mapper) };
-
-    ghost withdraws = { λ old new.
-        WithdrawsSend A old.state new.state × (new.mapper ≡ old.mapper) };
-
-    fn runtime(&self) -> R {
-        self.sender.shared().rt
-    }
-
-    fn alloc(&self) -> A {
-        self.sender.shared().alloc
-    }
-
-    fn checks(&self) -> u32 {
-        self.sender.shared().checks()
-    }
-
-    fn turn(&mut self, number: usize, parker: Option<&Arc<Parker, A>>) -> ArmNext {
-        match replace(&mut self.state, SendState::Finished) {
-            SendState::Unstarted(message) => match parker {
-                Some(parker) => self.start(message, number, parker),
-                None => self.attempt(message),
-            },
-            SendState::Parked(call) => self.poll(call),
-            SendState::Completed(result) => {
-                self.state = SendState::Completed(result);
-                ArmNext::Completed
-            }
-            SendState::Finished => ArmNext::NoMemory,
-        }
-    }
-
-    fn withdraw(&mut self) {
-        match replace(&mut self.state, SendState::Finished) {
-            SendState::Parked(call) => self.take_back(call),
-            other => self.state = other,
-        }
-    }
-}
-
-impl<'a, V, T: Drop, F, R: Waits, A: Allocator + Copy> Arm<V, A> for SendArm<'a, T, F, R, A>
-where
-    F: FnOnce(Result<(), SendError<T>>) -> V + Drop,
-{
-    ghost can_map = { CanMap F.pre CompletesSend };
-
-    ghost maps = { Maps F.post CompletesSend };
-
-    ghost answers = { λ arm. MapsResult F.post arm.mapper (send_result arm.state) };
-
-    fn value(self) -> Option<V> {
-        let SendArm { state, mapper, .. } = self;
-        match state {
-            SendState::Completed(Ok(())) => Some(mapper(Ok(()))),
-            SendState::Completed(Err(back)) => Some(mapper(Err(SendError::Disconnected(back)))),
-            _ => None,
-        }
-    }
-}
-
-impl<V, T: Drop, F, R: Waits, A: Allocator + Copy> ListedArm<V, F, A> for SendArm<'_, T, (), R, A>
-where
-    F: FnOnce(usize, Result<(), SendError<T>>) -> V + Drop,
-{
-    ghost can_map = { CanMapEach F.pre CompletesSend };
-
-    ghost maps = { MapsEach F.post CompletesSend };
-
-    ghost answers = { λ arm mapper place. MapsResult (λ f. F.post f place) mapper
-        (send_result arm.state) };
-
-    fn listed_value(self, place: usize, mapper: F) -> Option<V> {
-        match self.state {
-            SendState::Completed(Ok(())) => Some(mapper(place, Ok(()))),
-            SendState::Completed(Err(back)) => {
-                Some(mapper(place, Err(SendError::Disconnected(back))))
-            }
-            _ => None,
-        }
     }
 }

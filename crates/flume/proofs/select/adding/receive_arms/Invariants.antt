@@ -8,6 +8,6 @@ abbrev pub invariant-loop-receiver : goal.invariant-loop-receiver
 invariant-loop-receiver g l = record {
   arms : vec_len l.arms ≡ l.receiver-index;
   room : vec_capacity l.arms ≡ length l.receivers;
-  channels : map (λ arm. arm.receiver.now) l.arms.items ≡ take l.receiver-index l.receivers;
-  unstarted : map (λ arm. arm.state) l.arms.items ≡ map (λ _. ReceiveState.Unstarted) (take l.receiver-index l.receivers);
+  channels : map (λ arm. arm.arm.receiver.now) l.arms.items ≡ take l.receiver-index l.receivers;
+  unstarted : map (λ arm. arm.arm.state) l.arms.items ≡ map (λ _. ReceiveState.Unstarted) (take l.receiver-index l.receivers);
 }

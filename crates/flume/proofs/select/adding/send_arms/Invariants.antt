@@ -10,8 +10,8 @@ invariant-loop-sender g l =
     (goal.iterator-loop-sender g).can_next l.sender-iterator ×
     (goal.iterator-loop-sender g).is_finite l.sender-iterator × record {
       room : vec_len l.arms + into_iter_len l.sender-iterator ≡ vec_capacity l.arms;
-      channels : map (λ arm. arm.sender.now) l.arms.items ++ map (λ pair. pair.0.now) (into_iter_items l.sender-iterator) ≡ map
+      channels : map (λ arm. arm.arm.sender.now) l.arms.items ++ map (λ pair. pair.0.now) (into_iter_items l.sender-iterator) ≡ map
           (λ pair. pair.0.now) l.fn.sends.items;
-      unstarted : map (λ arm. arm.state) l.arms.items ++ map (λ pair. SendState.Unstarted pair.1) (into_iter_items l.sender-iterator)
+      unstarted : map (λ arm. arm.arm.state) l.arms.items ++ map (λ pair. SendState.Unstarted pair.1) (into_iter_items l.sender-iterator)
           ≡ map (λ pair. SendState.Unstarted pair.1) l.fn.sends.items;
     }

@@ -1,7 +1,0 @@
--- The step was made.
-use Rattle.flume.proofs.StepLemmas.{step_made}
-use Rattle.flume.proofs.select.receive.RecvArm.poll.Goals as goal
-
-pub returns-clause-does : goal.returns-clause-does
-returns-clause-does g c =
-    let step = c.call_cold.ensures in (_, step_made step.made, step.answers.0, c.next_state-state.ensures.does)

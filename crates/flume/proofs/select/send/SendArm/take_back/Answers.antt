@@ -1,6 +1,0 @@
--- The step was made.
-use Rattle.flume.proofs.StepLemmas.{step_made}
-use Rattle.flume.proofs.select.send.SendArm.take_back.Goals as goal
-
-pub returns : goal.returns
-returns g c = record { withdrawn = (_, step_made c.call_cold.ensures.made) }
