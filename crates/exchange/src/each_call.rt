@@ -1,9 +1,10 @@
 //! Each call of traced ends that isn't made elsewhere in this program, in one thread.
 ghost use Rattle.std.specs.Prelude.{◌≡◌};
 
-use flume::{Runtime, Selector};
 use flume::traced::{ChannelName, ChannelParty, TracedReceiver, TracedSender, UnopenedChannel};
+use flume::{Runtime, Selector};
 use futures::executor::block_on;
+use futures::{SinkExt, StreamExt};
 use std::alloc::Global;
 use std::io;
 use std::marker::Brand;
@@ -58,6 +59,28 @@ fn send_as_future<J: ChannelName, R: Runtime + RandomSource>(
     let (me, _never_sent) = tx.send_async(me, 0).cancel();
     let (me, _nothing) = tx.sink(me).cancel();
     Ok(me)
+}
+
+/// Sends 14 by a selection, and gives the party back.
+fn send_by_selection<J: ChannelName, R: Runtime>(
+    tx: &TracedSender<u64, R, J>,
+    me: ChannelParty<u64, J>,
+) -> io::Result<ChannelParty<u64, J>> {
+    let arms = Selector::new().send_by(tx, me, 14, |sent| sent.is_ok());
+    let (sent, ((), me)) = arms.wait_by();
+    sent?;
+    Ok(me)
+}
+
+/// Sends 15 by a sink, which keeps the party.
+fn send_by_sink<J: ChannelName, R: Runtime + RandomSource>(
+    rt: R,
+    tx: &TracedSender<u64, R, J>,
+    me: ChannelParty<u64, J>,
+) -> io::Result<()> {
+    let mut sink = tx.sink(me);
+    block_on(&rt, sink.send(15))??;
+    Ok(())
 }
 
 /// Takes the first seven by calls that give a message, or a list.
@@ -115,6 +138,18 @@ fn receive_as_future<J: ChannelName, R: Runtime + RandomSource>(
     Ok(me)
 }
 
+/// Takes the next by a stream, which keeps the party.
+fn receive_by_stream<J: ChannelName, R: Runtime + RandomSource>(
+    rt: R,
+    rx: &TracedReceiver<u64, R, J>,
+    me: ChannelParty<u64, J>,
+    items: &mut Vec<u64>,
+) -> io::Result<()> {
+    let mut messages = rx.stream(me);
+    items.extend(block_on(&rt, messages.next())?)?;
+    Ok(())
+}
+
 /// Takes one more by a selection of two receives, of which one gets nothing.
 fn receive_by_selection<J: ChannelName, R: Runtime>(
     rx: &TracedReceiver<u64, R, J>,
@@ -131,25 +166,28 @@ fn receive_by_selection<J: ChannelName, R: Runtime>(
     Ok(me)
 }
 
-/// What is received over this channel, of 1 to 14; the last by a drain.
+/// What is received over this channel, of 1 to 15; the last by a drain.
 pub fn each_call_named<J: ChannelName, R: Runtime + RandomSource>(
     rt: R,
     alloc: Global,
     channel: UnopenedChannel,
 ) -> io::Result<Vec<u64>>
     requires named { channel ≡ J.identity }
-    requires parts { channel.parts ≡ 2 }
+    requires parts { channel.parts ≡ 4 }
 {
     let (tx, rx, mut me) = flume::on(rt).traced::<u64, J>(channel)?;
-    let other = me.split_off(1);
+    let (other, sink) = (me.split_off(1), me.split_off(1));
+    let stream = me.split_off(1);
     send_lists(rt, alloc, &tx, &mut me)?;
     send_each(rt, &tx, &mut me)?;
-    let mut me = send_as_future(rt, &tx, me)?;
-    tx.send(&mut me, 14)?;
+    let me = send_as_future(rt, &tx, me)?;
+    let mut me = send_by_selection(&tx, me)?;
+    send_by_sink(rt, &tx, sink)?;
     let mut items = Vec::new(alloc);
     receive_each(rt, &rx, &mut me, &mut items)?;
     let me = receive_by_iterators(rt, &rx, me, &mut items)?;
     let me = receive_as_future(rt, &rx, me, &mut items)?;
+    receive_by_stream(rt, &rx, stream, &mut items)?;
     let mut me = receive_by_selection(&rx, me, other, &mut items)?;
     for message in rx.drain(&mut me)? {
         items.push(message)?;
@@ -157,7 +195,7 @@ pub fn each_call_named<J: ChannelName, R: Runtime + RandomSource>(
     Ok(items)
 }
 
-/// What is received, of 1 to 14, by each call of traced ends.
+/// What is received, of 1 to 15, by each call of traced ends.
 pub fn each_call<R: Runtime + RandomSource>(rt: R, alloc: Global) -> io::Result<Vec<u64>> {
-    each_call_named::<Brand, R>(rt, alloc, UnopenedChannel::unbounded(2))
+    each_call_named::<Brand, R>(rt, alloc, UnopenedChannel::unbounded(4))
 }

@@ -13,8 +13,9 @@
 //! me.merge(other);
 //! assert!(rt; rx.settle(&mut me));
 //! ```
-//! What a call does is one function, of these ends and of the others. Iterators and futures own their
-//! party. There are no sinks, streams and selections yet. Clones, drops and queries take no party.
+//! What a call does is one function, of these ends and of the others. Iterators, futures, sinks,
+//! streams and the arms of a `Selector` own their party, and give it back. Clones, drops and queries
+//! take no party.
 ghost use Rattle.std.specs.Prelude.{◌≡◌, ◌≢◌, ◌<◌, [], IfOk, Err};
 ghost use Rattle.flume_model.specs.declared.step.Step.TheVariants.{TrySend, TryRecv, Drain};
 ghost use Rattle.flume_calls.specs.ReceiveTurns.{after_try_recv};
@@ -211,8 +212,8 @@ impl<T: Drop, R: Waits, A: Allocator + Copy, J: ChannelName> Receiver<T, R, A, T
     }
 
     /// For any party, at any time. It changes nothing. Its clause says that the actions of `me`
-    /// stand, in their order, in the one history of this channel, and that each reply in that was
-    /// the abstract channel's.
+    /// stand, in their order, in all that was done to this channel, and that each reply in that was
+    /// the abstract channel's. It doesn't say that two such calls speak of the same history.
     pub fn confirm(&self, me: &mut ChannelParty<T, J, A>)
         ensures party { me.new ≡ me.old }
         ensures part { IsPart J.identity.capacity me.old.actions }

@@ -89,8 +89,8 @@ where
         ensures value { IfOk result.0 (IsValue L.count L.maps (L.mappers self.entry.arms)) }
         ensures made { Selects L.turns L.withdraws L.answers (L.count (L.mappers self.entry.arms))
             self.entry.start Deadline.Never self.entry.arms (wait_as_timed result.0) }
-        ensures called { L.all_idle self.entry.arms → HasSelected L.completes L.stand_by (L.mappers self.entry.arms)
-            (wait_as_timed result.0) result.1 }
+        ensures called { L.all_idle self.entry.arms → HasSelected L.completes L.stand_by
+            (L.mappers self.entry.arms) (wait_as_timed result.0) result.1 }
     {
         let (result, parties) = self.select_by(Deadline::Never);
         let result = match result {
@@ -107,8 +107,8 @@ where
         ensures value { IfOk result.0 (IsValue L.count L.maps (L.mappers self.entry.arms)) }
         ensures made { Selects L.turns L.withdraws L.answers (L.count (L.mappers self.entry.arms))
             self.entry.start (Deadline.At deadline) self.entry.arms result.0 }
-        ensures called { L.all_idle self.entry.arms → HasSelected L.completes L.stand_by (L.mappers self.entry.arms)
-            result.0 result.1 }
+        ensures called { L.all_idle self.entry.arms → HasSelected L.completes L.stand_by
+            (L.mappers self.entry.arms) result.0 result.1 }
     {
         self.select_by(Deadline::At(deadline))
     }
@@ -120,8 +120,8 @@ where
         ensures made { (deadline : Deadline) × IsAfter timeout deadline × Selects L.turns
             L.withdraws L.answers (L.count (L.mappers self.entry.arms)) self.entry.start deadline
             self.entry.arms result.0 }
-        ensures called { L.all_idle self.entry.arms → HasSelected L.completes L.stand_by (L.mappers self.entry.arms)
-            result.0 result.1 }
+        ensures called { L.all_idle self.entry.arms → HasSelected L.completes L.stand_by
+            (L.mappers self.entry.arms) result.0 result.1 }
     {
         let deadline = Deadline::after(&self.arms.runtime(), timeout);
         self.select_by(deadline)
@@ -134,8 +134,8 @@ where
             (IsValue L.count L.maps (L.mappers self.entry.arms))) }
         ensures made { Tries L.turns L.answers (L.count (L.mappers self.entry.arms))
             self.entry.start self.entry.arms result.0 }
-        ensures called { L.all_idle self.entry.arms → HasTriedArms L.completes L.stand_by (L.mappers self.entry.arms)
-            result.0 result.1 }
+        ensures called { L.all_idle self.entry.arms → HasTriedArms L.completes L.stand_by
+            (L.mappers self.entry.arms) result.0 result.1 }
     {
         match try_select_over(&mut self) {
             Ok(Some(arm)) => {
@@ -152,8 +152,8 @@ where
         ensures value { IfOk result.0 (IsValue L.count L.maps (L.mappers self.entry.arms)) }
         ensures made { Selects L.turns L.withdraws L.answers (L.count (L.mappers self.entry.arms))
             self.entry.start deadline self.entry.arms result.0 }
-        ensures called { L.all_idle self.entry.arms → HasSelected L.completes L.stand_by (L.mappers self.entry.arms)
-            result.0 result.1 }
+        ensures called { L.all_idle self.entry.arms → HasSelected L.completes L.stand_by
+            (L.mappers self.entry.arms) result.0 result.1 }
         ensures in_time { deadline ≡ Never → result.0 ≢ Err SelectError.Timeout }
     {
         let arm = match self.race(deadline) {
