@@ -160,9 +160,23 @@ fn receive_by_selection<J: ChannelName, R: Runtime>(
     let arms = Selector::new()
         .recv_by(rx, me, Result::ok)
         .recv_by(rx, other, Result::ok);
-    let (message, (((), mut me), other)) = arms.wait_by();
+    let (message, (((), mut me), other)) = arms.wait_timeout_by(Duration::from_secs(3600));
     me.merge(other);
     items.extend(message?)?;
+    Ok(me)
+}
+
+/// Selects a receive for as long as the clock allows now, and not at all.
+fn select_in_vain<J: ChannelName, R: Runtime>(
+    rt: R,
+    rx: &TracedReceiver<u64, R, J>,
+    me: ChannelParty<u64, J>,
+) -> io::Result<ChannelParty<u64, J>> {
+    let now = Instant::now(&rt)?;
+    let arms = Selector::new().recv_by(rx, me, Result::ok);
+    let (_late, ((), me)) = arms.wait_deadline_by(now);
+    let arms = Selector::new().recv_by(rx, me, Result::ok);
+    let (_none, ((), me)) = arms.try_wait_by();
     Ok(me)
 }
 
@@ -192,6 +206,7 @@ pub fn each_call_named<J: ChannelName, R: Runtime + RandomSource>(
     for message in rx.drain(&mut me)? {
         items.push(message)?;
     }
+    select_in_vain(rt, &rx, me)?;
     Ok(items)
 }
 
