@@ -42,7 +42,12 @@ where
 impl<T: Drop, R: Waits, A: Allocator + Copy, J: ChannelName> Receiver<T, R, A, Traced<T, A, J>> {
     /// As of a receiver without a trace. The party comes back with the answer.
     /// ```
-    /// let (me, message) = block_on(&rt, rx.recv_async(me))?;
+    /// let channel = UnopenedChannel::unbounded(1);
+    /// let (tx, rx, mut me) = flume::on(rt).traced::<u64, Brand>(channel)?;
+    /// tx.send(&mut me, 7)?;
+    /// let (mut me, message) = block_on(&rt, rx.recv_async(me))?;
+    /// assert_eq!(rt; message, Ok(7));
+    /// assert!(rt; rx.settle(&mut me));
     /// ```
     pub fn recv_async(&self, me: ChannelParty<T, J, A>) -> TracedRecvFut<'_, T, R, J, A>
         ensures start { result.start.value ≡ me }
@@ -116,7 +121,9 @@ impl<'a, T: Drop, R: Waits, A: Allocator + Copy, J: ChannelName> PartyRecvFut<
 
     /// Gives the party back, and the message if one was handed over. It can't be polled then.
     /// ```
-    /// let (me, message) = rx.recv_async(me).cancel();
+    /// let channel = UnopenedChannel::unbounded(1);
+    /// let (_tx, rx, me) = flume::on(rt).traced::<u64, Brand>(channel)?;
+    /// let (_me, message) = rx.recv_async(me).cancel();
     /// assert_eq!(rt; message, None);
     /// ```
     pub fn cancel(&mut self) -> (ChannelParty<T, J, A>, Option<T>)

@@ -42,7 +42,10 @@ where
 impl<T: Drop, R: Waits, A: Allocator + Copy, J: ChannelName> Sender<T, R, A, Traced<T, A, J>> {
     /// As of a sender without a trace. The party comes back with the answer.
     /// ```
-    /// let (me, sent) = block_on(&rt, tx.send_async(me, 42))?;
+    /// let channel = UnopenedChannel::unbounded(1);
+    /// let (tx, _rx, me) = flume::on(rt).traced::<u64, Brand>(channel)?;
+    /// let (_me, sent) = block_on(&rt, tx.send_async(me, 42))?;
+    /// assert_eq!(rt; sent, Ok(()));
     /// ```
     pub fn send_async(&self, me: ChannelParty<T, J, A>, message: T) -> TracedSendFut<'_, T, R, J, A>
         ensures start { result.start.value ≡ me }
@@ -109,7 +112,9 @@ impl<'a, T: Drop, R: Waits, A: Allocator + Copy, J: ChannelName> PartySendFut<
 
     /// Gives the party back. `Err` has the message, which wasn't sent. It can't be polled then.
     /// ```
-    /// let (me, sent) = tx.send_async(me, 42).cancel();
+    /// let channel = UnopenedChannel::unbounded(1);
+    /// let (tx, _rx, me) = flume::on(rt).traced::<u64, Brand>(channel)?;
+    /// let (_me, sent) = tx.send_async(me, 42).cancel();
     /// assert_eq!(rt; sent, Err(42));
     /// ```
     pub fn cancel(&mut self) -> (ChannelParty<T, J, A>, Result<(), T>)

@@ -46,6 +46,14 @@ struct Sending<T> {
 
 impl<T: Drop, R: Waits, A: Allocator + Copy, J: ChannelName> Sender<T, R, A, Traced<T, A, J>> {
     /// As of a sender without a trace. The sink has the party; `cancel` gives it back.
+    /// ```
+    /// let channel = UnopenedChannel::unbounded(1);
+    /// let (tx, rx, me) = flume::on(rt).traced::<u64, Brand>(channel)?;
+    /// let messages = tx.sink(me);
+    /// let mut messages = block_on(&rt, messages.send(7))??;
+    /// let (mut me, _sent) = messages.cancel();
+    /// assert_eq!(rt; rx.recv(&mut me), Ok(7));
+    /// ```
     pub fn sink(&self, me: ChannelParty<T, J, A>) -> TracedSendSink<'_, T, R, J, A>
         ensures start { result.start.value ≡ me }
         ensures can_poll { IsSomeAnd result.me (CanSink result.start.value result.sending) }

@@ -41,6 +41,15 @@ where
 
 impl<T: Drop, R: Waits, A: Allocator + Copy, J: ChannelName> Receiver<T, R, A, Traced<T, A, J>> {
     /// As of a receiver without a trace. The stream has the party; `cancel` gives it back.
+    /// ```
+    /// let channel = UnopenedChannel::unbounded(1);
+    /// let (tx, rx, mut me) = flume::on(rt).traced::<u64, Brand>(channel)?;
+    /// tx.send(&mut me, 7)?;
+    /// let mut messages = rx.stream(me);
+    /// assert_eq!(rt; block_on(&rt, messages.next())?, Some(7));
+    /// let (mut me, _message) = messages.cancel();
+    /// assert!(rt; rx.settle(&mut me));
+    /// ```
     pub fn stream(&self, me: ChannelParty<T, J, A>) -> TracedRecvStream<'_, T, R, J, A>
         ensures start { result.start.value ≡ me }
         ensures can_poll { CanReceive result.start.value result.call.call result.me }
