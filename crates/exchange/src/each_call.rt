@@ -150,18 +150,14 @@ fn receive_by_stream<J: ChannelName, R: Runtime + RandomSource>(
     Ok(())
 }
 
-/// Takes one more by a selection of two receives, of which one gets nothing.
+/// Takes one more by a selection, and gives the party back.
 fn receive_by_selection<J: ChannelName, R: Runtime>(
     rx: &TracedReceiver<u64, R, J>,
     me: ChannelParty<u64, J>,
-    other: ChannelParty<u64, J>,
     items: &mut Vec<u64>,
 ) -> io::Result<ChannelParty<u64, J>> {
-    let arms = Selector::new()
-        .recv_by(rx, me, Result::ok)
-        .recv_by(rx, other, Result::ok);
-    let (message, (((), mut me), other)) = arms.wait_timeout_by(Duration::from_secs(3600));
-    me.merge(other);
+    let arms = Selector::new().recv_by(rx, me, Result::ok);
+    let (message, ((), me)) = arms.wait_timeout_by(Duration::from_secs(3600));
     items.extend(message?)?;
     Ok(me)
 }
@@ -187,11 +183,10 @@ pub fn each_call_named<J: ChannelName, R: Runtime + RandomSource>(
     channel: UnopenedChannel,
 ) -> io::Result<Vec<u64>>
     requires named { channel ≡ J.identity }
-    requires parts { channel.parts ≡ 4 }
+    requires parts { channel.parts ≡ 3 }
 {
     let (tx, rx, mut me) = flume::on(rt).traced::<u64, J>(channel)?;
-    let (other, sink) = (me.split_off(1), me.split_off(1));
-    let stream = me.split_off(1);
+    let (sink, stream) = (me.split_off(1), me.split_off(1));
     send_lists(rt, alloc, &tx, &mut me)?;
     send_each(rt, &tx, &mut me)?;
     let me = send_as_future(rt, &tx, me)?;
@@ -202,7 +197,7 @@ pub fn each_call_named<J: ChannelName, R: Runtime + RandomSource>(
     let me = receive_by_iterators(rt, &rx, me, &mut items)?;
     let me = receive_as_future(rt, &rx, me, &mut items)?;
     receive_by_stream(rt, &rx, stream, &mut items)?;
-    let mut me = receive_by_selection(&rx, me, other, &mut items)?;
+    let mut me = receive_by_selection(&rx, me, &mut items)?;
     for message in rx.drain(&mut me)? {
         items.push(message)?;
     }
@@ -212,5 +207,5 @@ pub fn each_call_named<J: ChannelName, R: Runtime + RandomSource>(
 
 /// What is received, of 1 to 15, by each call of traced ends.
 pub fn each_call<R: Runtime + RandomSource>(rt: R, alloc: Global) -> io::Result<Vec<u64>> {
-    each_call_named::<Brand, R>(rt, alloc, UnopenedChannel::unbounded(4))
+    each_call_named::<Brand, R>(rt, alloc, UnopenedChannel::unbounded(3))
 }
