@@ -78,7 +78,7 @@ fn send_by_sink<J: ChannelName, R: Runtime + RandomSource>(
     tx: &TracedSender<u64, R, J>,
     me: ChannelParty<u64, J>,
 ) -> io::Result<()> {
-    let mut sink = tx.sink(me);
+    let sink = tx.sink(me);
     block_on(&rt, sink.send(15))??;
     Ok(())
 }
@@ -162,7 +162,7 @@ fn receive_by_selection<J: ChannelName, R: Runtime>(
     Ok(me)
 }
 
-/// Selects a receive for as long as the clock allows now, and not at all.
+/// Selects a receive of which nothing comes: by a deadline that is reached, and by a try.
 fn select_in_vain<J: ChannelName, R: Runtime>(
     rt: R,
     rx: &TracedReceiver<u64, R, J>,
