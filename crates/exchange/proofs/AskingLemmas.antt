@@ -4,8 +4,8 @@ use Rattle.std.proofs.Common.{List, [], ◌∷◌, refl, ap}
 use Rattle.std.specs.List.{cons_option, filter_map}
 use Rattle.flume_party.specs.Interleavings.{Interleaving, End, Left, Right}
 use Rattle.flume_party.proofs.InterleavingLemmas.{interleaved_alone, interleaved_swap}
-use Rattle.flume_actions.specs.Together.{AreExchanged}
-use Rattle.flume_actions.proofs.CallerLemmas.{one_in_order, two_in_order}
+use Rattle.flume_laws.specs.Together.{AreExchanged}
+use Rattle.flume_laws.proofs.TakeInLemmas.{one_in_order, two_in_order}
 use Rattle.exchange.specs.declared.asking.Question.{Question}
 use Rattle.exchange.specs.Asking.{questions_of, replies_to, reply_to}
 use Rattle.exchange.specs.Halving.{halves}

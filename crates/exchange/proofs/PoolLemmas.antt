@@ -4,8 +4,8 @@ use Rattle.std.proofs.lemmas.List.{map-append}
 use Rattle.std.proofs.lemmas.List.Sorted.{IsPermutation-map, IsPermutation-trans, IsPermutation-sym}
 use Rattle.std.specs.List.Sorted.{IsPermutation}
 use Rattle.flume_party.proofs.InterleavingLemmas.{interleaved_permutes}
-use Rattle.flume_actions.specs.Together.{AreExchanged}
-use Rattle.flume_actions.proofs.CallerLemmas.{one_in_order, two_in_order}
+use Rattle.flume_laws.specs.Together.{AreExchanged}
+use Rattle.flume_laws.proofs.TakeInLemmas.{one_in_order, two_in_order}
 use Rattle.exchange.specs.Halving.{halves}
 
 -- if two workers halve what comes, each number is halved once

@@ -2,5 +2,4 @@ pub mod Actions
 pub mod SendCalls
 pub mod ReceiveCalls
 pub mod Calls
-pub mod Together
 pub mod Callers

@@ -1,8 +1,3 @@
-//! What the actions of parties say: which calls they are, and what those sent and got.
+//! What the actions of parties say: which calls they are, and what those sent and got. Definitions
+//! only, for contracts; `flume_laws` has the laws.
 #![tactic(auto)]
-
-mod laws;
-
-pub use laws::{
-    each_pair_keeps_its_order, what_comes_back_is_what_was_offered, what_was_sent_is_what_was_got,
-};

@@ -1,6 +1,6 @@
 use Rattle.std.proofs.Common.{sym}
-use Rattle.flume_actions.proofs.CallerLemmas.{none_taken_in, take_in_sender, take_in_receiver}
-use Rattle.flume_actions.proofs.CallerLemmas.{exchanged, same_in_order}
+use Rattle.flume_laws.proofs.TakeInLemmas.{none_taken_in, take_in_sender, take_in_receiver}
+use Rattle.flume_laws.proofs.TakeInLemmas.{exchanged, same_in_order}
 use Rattle.exchange.proofs.asking.ask_named.Goals as goal
 
 pub returns : goal.returns

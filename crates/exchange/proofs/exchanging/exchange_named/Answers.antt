@@ -1,7 +1,7 @@
 use Rattle.std.proofs.Common.{rules, []}
 use Rattle.flume_actions.specs.Callers.{HasMadeCalls}
-use Rattle.flume_actions.proofs.CallerLemmas.{none_taken_in, split_off, take_in_sender}
-use Rattle.flume_actions.proofs.CallerLemmas.{take_in_receiver, exchanged, two_in_order}
+use Rattle.flume_laws.proofs.TakeInLemmas.{none_taken_in, split_off, take_in_sender}
+use Rattle.flume_laws.proofs.TakeInLemmas.{take_in_receiver, exchanged, two_in_order}
 use Rattle.exchange.proofs.exchanging.exchange_named.Goals as goal
 
 pub returns : goal.returns

@@ -1,6 +1,6 @@
 use Rattle.std.proofs.Common.{ap, sym, ◌∙◌}
-use Rattle.flume_actions.proofs.CallerLemmas.{none_taken_in, split_off, take_in_sender}
-use Rattle.flume_actions.proofs.CallerLemmas.{take_in_receiver, exchanged, same_in_order}
+use Rattle.flume_laws.proofs.TakeInLemmas.{none_taken_in, split_off, take_in_sender}
+use Rattle.flume_laws.proofs.TakeInLemmas.{take_in_receiver, exchanged, same_in_order}
 use Rattle.exchange.specs.Halving.{halves}
 use Rattle.exchange.proofs.piping.pipeline_named.Goals as goal
 

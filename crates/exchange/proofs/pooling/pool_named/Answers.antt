@@ -1,5 +1,5 @@
-use Rattle.flume_actions.proofs.CallerLemmas.{none_taken_in, split_off, take_in_sender}
-use Rattle.flume_actions.proofs.CallerLemmas.{take_in_receiver, exchanged}
+use Rattle.flume_laws.proofs.TakeInLemmas.{none_taken_in, split_off, take_in_sender}
+use Rattle.flume_laws.proofs.TakeInLemmas.{take_in_receiver, exchanged}
 use Rattle.exchange.proofs.PoolLemmas.{pooled}
 use Rattle.exchange.proofs.pooling.pool_named.Goals as goal
 

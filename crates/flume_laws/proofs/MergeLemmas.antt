@@ -7,7 +7,7 @@ use Rattle.std.specs.Prelude.{reverse}
 use Rattle.std.specs.List.{flat_map, filter}
 use Rattle.flume_party.specs.Interleavings.{Interleaving, End, Left, Right}
 use Rattle.flume_party.proofs.InterleavingLemmas.{interleaved_alone, interleaved_swap}
-use Rattle.flume_actions.specs.Together.{Interleaved}
+use Rattle.flume_laws.specs.Together.{Interleaved}
 
 -- one if so
 abbrev pub bit : Bool → ℕ

@@ -20,8 +20,8 @@ use Rattle.flume_model.specs.Line.{messages, next_ticket, tickets_issued}
 use Rattle.flume_model.specs.Channel.{channel}
 use Rattle.flume_model.specs.Replies.{IsReply, IsRun}
 use Rattle.flume_actions.specs.Actions.{Action}
-use Rattle.flume_actions.proofs.MergeLemmas.{bit, tally, flat_reverse}
-use Rattle.flume_actions.proofs.TurnLemmas.{offered}
+use Rattle.flume_laws.proofs.MergeLemmas.{bit, tally, flat_reverse}
+use Rattle.flume_laws.proofs.TurnLemmas.{offered}
 
 -- a change withdraws the offer, or an earlier one has
 some_or : (b w : Bool) (n k : ℕ) → bit b ≡ n → 1 ≤ n + k → (1 ≤ k → w ≡ true)

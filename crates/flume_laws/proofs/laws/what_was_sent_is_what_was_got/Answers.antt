@@ -1,5 +1,5 @@
-use Rattle.flume_actions.proofs.ExchangeLemmas.{exchange}
-use Rattle.flume_actions.proofs.laws.what_was_sent_is_what_was_got.Goals as goal
+use Rattle.flume_laws.proofs.ExchangeLemmas.{exchange}
+use Rattle.flume_laws.proofs.laws.what_was_sent_is_what_was_got.Goals as goal
 
 pub returns : goal.returns
 returns g c = record {

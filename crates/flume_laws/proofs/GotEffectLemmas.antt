@@ -15,10 +15,10 @@ use Rattle.flume_model.specs.Channel.{channel}
 use Rattle.flume_model.specs.Replies.{IsReply}
 use Rattle.flume_model.proofs.AskingCaseLemmas.{polled_cases, gone_cases}
 use Rattle.flume_model.proofs.EntryChangeLemmas.{fills}
-use Rattle.flume_actions.proofs.TurnLemmas.{gets}
-use Rattle.flume_actions.proofs.TurnLemmas.{is_unparked}
-use Rattle.flume_actions.proofs.GotMemberLemmas.{here}
-use Rattle.flume_actions.proofs.GotEntryLemmas.{leaver, parker}
+use Rattle.flume_laws.proofs.TurnLemmas.{gets}
+use Rattle.flume_laws.proofs.TurnLemmas.{is_unparked}
+use Rattle.flume_laws.proofs.GotMemberLemmas.{here}
+use Rattle.flume_laws.proofs.GotEntryLemmas.{leaver, parker}
 
 module _ {T : Type 0} where
   -- the message, if there is one

@@ -13,7 +13,7 @@ use Rattle.flume_model.proofs.EntryShapeLemmas.{filled_if_named}
 use Rattle.flume_model.proofs.LawfulReplyLemmas.{not_over_yet}
 use Rattle.flume_model.proofs.fills.FillsShownLemmas.{shows_stood, unshown}
 use Rattle.flume_actions.specs.Actions.{Action}
-use Rattle.flume_actions.proofs.GotEffectLemmas.{as_list, in_hand}
+use Rattle.flume_laws.proofs.GotEffectLemmas.{as_list, in_hand}
 
 module _ {T : Type 0} where
   -- another receiver than the one that is filled now was handed the same before

@@ -4,12 +4,12 @@ use Rattle.std.proofs.Common.{refl, ap, sym, subst, ◌∙◌, arith}
 use Rattle.std.proofs.lemmas.List.{append-nil, append_assoc}
 use Rattle.flume_model.specs.Log.{is_ticket}
 use Rattle.flume_party.specs.Interleavings.{Interleaving, End}
-use Rattle.flume_actions.specs.Together.{Interleaved}
-use Rattle.flume_actions.proofs.MergeLemmas.{left_all, right_all}
-use Rattle.flume_actions.proofs.TurnLemmas.{parked_of, Course}
-use Rattle.flume_actions.proofs.PartyLemmas.{Member, actions_of}
-use Rattle.flume_actions.proofs.GotMemberLemmas.{parked_under, here}
-use Rattle.flume_actions.proofs.GotMemberLemmas.{none_merged}
+use Rattle.flume_laws.specs.Together.{Interleaved}
+use Rattle.flume_laws.proofs.MergeLemmas.{left_all, right_all}
+use Rattle.flume_laws.proofs.TurnLemmas.{parked_of, Course}
+use Rattle.flume_laws.proofs.PartyLemmas.{Member, actions_of}
+use Rattle.flume_laws.proofs.GotMemberLemmas.{parked_under, here}
+use Rattle.flume_laws.proofs.GotMemberLemmas.{none_merged}
 
 module _ {T A : Type 0} where
   -- each party gets what was handed to it before, and then this

@@ -4,10 +4,10 @@ use Rattle.std.proofs.Common.{filter}
 use Rattle.std.proofs.lemmas.Grind.{common_steps}
 use Rattle.flume_party.specs.Interleavings.{Interleaving}
 use Rattle.flume_actions.specs.Actions.{Action, is_of_party}
-use Rattle.flume_actions.specs.Together.{Interleaved, EachAreCalls, NoParty, AndParty}
-use Rattle.flume_actions.proofs.MergeLemmas.{filter_merged}
-use Rattle.flume_actions.proofs.TurnLemmas.{Stand, Free, Acts, Course, course_from}
-use Rattle.flume_actions.proofs.CallLemmas.{calls_course}
+use Rattle.flume_laws.specs.Together.{Interleaved, EachAreCalls, NoParty, AndParty}
+use Rattle.flume_laws.proofs.MergeLemmas.{filter_merged}
+use Rattle.flume_laws.proofs.TurnLemmas.{Stand, Free, Acts, Course, course_from}
+use Rattle.flume_laws.proofs.CallLemmas.{calls_course}
 
 -- a party: how it stands, what it is still to do, and what it sends and gets by that
 pub record Member (T A : Type 0) : Type 0 where

@@ -28,8 +28,8 @@ use Rattle.flume_core.specs.declared.error.SendTimeoutError.{SendTimeoutError}
 use Rattle.flume_actions.specs.Actions.{Action, IsWhole, is_of_party}
 use Rattle.flume_actions.specs.SendCalls.{IsSend, Tried, Unable, NotBlocked, Blocked, IsBlockedPolls, Answered}
 use Rattle.flume_actions.specs.SendCalls.{Left, Pending as Waits, IsPolledSend, AtOnce, Polled}
-use Rattle.flume_actions.proofs.CallLemmas.{blocked_polls}
-use Rattle.flume_actions.proofs.SentCourseLemmas.{blocked_offer}
+use Rattle.flume_laws.proofs.CallLemmas.{blocked_polls}
+use Rattle.flume_laws.proofs.SentCourseLemmas.{blocked_offer}
 
 -- an earlier ticket is another, and a later one
 earlier : (t : ℕ) (o : Option ℕ) → IsEarlier o (Some t) → is_ticket t o ≡ true → ⊥

@@ -1,8 +1,8 @@
 -- What each receiver got of each sender.
 use Rattle.std.proofs.Common.{◌≡◌, List, [], ◌∷◌, refl, sym, subst}
 use Rattle.flume_party.specs.Interleavings.{Interleaving, End, Left, Right}
-use Rattle.flume_actions.specs.Together.{Interleaved, AreExchanged, AreEmpty, AreRouted}
-use Rattle.flume_actions.specs.Together.{EachMerged, NoList, AndLists}
+use Rattle.flume_laws.specs.Together.{Interleaved, AreExchanged, AreEmpty, AreRouted}
+use Rattle.flume_laws.specs.Together.{EachMerged, NoList, AndLists}
 
 module _ {X : Type 0} where
   -- a list that is merged of two in two ways: its parts that are in one of both

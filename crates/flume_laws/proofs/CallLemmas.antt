@@ -21,10 +21,10 @@ use Rattle.flume_actions.specs.ReceiveCalls.{IsPolledReceive}
 use Rattle.flume_actions.specs.Calls.{IsCall, Sends, TriesToSend, PollsToSend, Receives}
 use Rattle.flume_actions.specs.Calls.{TriesToReceive, PollsToReceive, Drains, DrainsNone}
 use Rattle.flume_actions.specs.Calls.{AreCalls, NoCalls, AndCall, sent_by, got_by}
-use Rattle.flume_actions.proofs.TurnLemmas.{Free, AsReceiver, AsSender}
-use Rattle.flume_actions.proofs.TurnLemmas.{Turn, Acts, Parks, Asks, Ends, Leaves, Blocks}
-use Rattle.flume_actions.proofs.TurnLemmas.{Waits, Hears, Withdraws, Course, course_append}
-use Rattle.flume_actions.proofs.TurnLemmas.{course_from, course_of}
+use Rattle.flume_laws.proofs.TurnLemmas.{Free, AsReceiver, AsSender}
+use Rattle.flume_laws.proofs.TurnLemmas.{Turn, Acts, Parks, Asks, Ends, Leaves, Blocks}
+use Rattle.flume_laws.proofs.TurnLemmas.{Waits, Hears, Withdraws, Course, course_append}
+use Rattle.flume_laws.proofs.TurnLemmas.{course_from, course_of}
 
 -- the result of a send
 abbrev Sent : Type 0 → Type 0

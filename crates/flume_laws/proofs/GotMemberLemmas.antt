@@ -4,9 +4,9 @@ use Rattle.std.proofs.Common.{refl, ap, sym, subst, arith, if◌then◌else◌, 
 use Rattle.flume_model.specs.Log.{is_ticket}
 use Rattle.flume_party.specs.Interleavings.{Interleaving, End, Left, Right}
 use Rattle.flume_actions.specs.Actions.{Action}
-use Rattle.flume_actions.specs.Together.{Interleaved}
-use Rattle.flume_actions.proofs.TurnLemmas.{parked_of}
-use Rattle.flume_actions.proofs.PartyLemmas.{Member, actions_of}
+use Rattle.flume_laws.specs.Together.{Interleaved}
+use Rattle.flume_laws.proofs.TurnLemmas.{parked_of}
+use Rattle.flume_laws.proofs.PartyLemmas.{Member, actions_of}
 
 -- one if this is the ticket
 abbrev pub here : ℕ → Option ℕ → ℕ

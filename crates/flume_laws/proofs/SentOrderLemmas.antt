@@ -11,12 +11,12 @@ use Rattle.flume_model.specs.Replies.{IsRun}
 use Rattle.flume_model.proofs.order.KeptLemmas.{not_withdrawn}
 use Rattle.flume_party.specs.Interleavings.{Interleaving}
 use Rattle.flume_actions.specs.Actions.{Action}
-use Rattle.flume_actions.specs.Together.{Interleaved}
-use Rattle.flume_actions.proofs.MergeLemmas.{tally, tally_reverse, tally_merged, flat_merged}
-use Rattle.flume_actions.proofs.PartyLemmas.{Member, actions_of, AreFree, Parties}
-use Rattle.flume_actions.proofs.SentOfferLemmas.{sent_of, issues, returns, passes, messages_of}
-use Rattle.flume_actions.proofs.SentOfferLemmas.{returned, not_returned, issued_once}
-use Rattle.flume_actions.proofs.SentCourseLemmas.{blocked_under, kept_of, course_counts, Judges, judges_fewer, course_sent}
+use Rattle.flume_laws.specs.Together.{Interleaved}
+use Rattle.flume_laws.proofs.MergeLemmas.{tally, tally_reverse, tally_merged, flat_merged}
+use Rattle.flume_laws.proofs.PartyLemmas.{Member, actions_of, AreFree, Parties}
+use Rattle.flume_laws.proofs.SentOfferLemmas.{sent_of, issues, returns, passes, messages_of}
+use Rattle.flume_laws.proofs.SentOfferLemmas.{returned, not_returned, issued_once}
+use Rattle.flume_laws.proofs.SentCourseLemmas.{blocked_under, kept_of, course_counts, Judges, judges_fewer, course_sent}
 
 module _ {T A : Type 0} where
   -- parties that are free end each ticket as often as they issue it

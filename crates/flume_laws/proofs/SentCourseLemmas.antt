@@ -12,12 +12,12 @@ use Rattle.flume_model.specs.declared.step.Reply.TheVariants.{NoTicket}
 use Rattle.flume_model.specs.Log.{Offer}
 use Rattle.flume_model.specs.Line.{messages}
 use Rattle.flume_actions.specs.Actions.{Action}
-use Rattle.flume_actions.proofs.MergeLemmas.{bit, tally}
-use Rattle.flume_actions.proofs.TurnLemmas.{Stand, AsSender, offered, is_unblocked, has_ended}
-use Rattle.flume_actions.proofs.TurnLemmas.{gone_by, Turn, Acts, Parks, Asks, Ends, Leaves, Blocks}
-use Rattle.flume_actions.proofs.TurnLemmas.{Waits, Hears, Withdraws, Course}
-use Rattle.flume_actions.proofs.SentOfferLemmas.{sent_of, issues_by, returns_by, passes_by}
-use Rattle.flume_actions.proofs.SentOfferLemmas.{issues, returns, passes, returned_to, passed_to}
+use Rattle.flume_laws.proofs.MergeLemmas.{bit, tally}
+use Rattle.flume_laws.proofs.TurnLemmas.{Stand, AsSender, offered, is_unblocked, has_ended}
+use Rattle.flume_laws.proofs.TurnLemmas.{gone_by, Turn, Acts, Parks, Asks, Ends, Leaves, Blocks}
+use Rattle.flume_laws.proofs.TurnLemmas.{Waits, Hears, Withdraws, Course}
+use Rattle.flume_laws.proofs.SentOfferLemmas.{sent_of, issues_by, returns_by, passes_by}
+use Rattle.flume_laws.proofs.SentOfferLemmas.{issues, returns, passes, returned_to, passed_to}
 
 module _ {T : Type 0} where
   -- one if the party is blocked under the ticket

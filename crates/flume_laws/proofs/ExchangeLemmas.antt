@@ -5,11 +5,11 @@ use Rattle.flume_model.specs.Log.{opens}
 use Rattle.flume_model.specs.Offers.{kept}
 use Rattle.flume_model.specs.Line.{messages}
 use Rattle.flume_actions.specs.Actions.{Action, IsWhole}
-use Rattle.flume_actions.specs.Together.{Interleaved, EachAreCalls, AreExchanged}
-use Rattle.flume_actions.proofs.MergeLemmas.{leave_out}
-use Rattle.flume_actions.proofs.PartyLemmas.{all_parties}
-use Rattle.flume_actions.proofs.SentOrderLemmas.{sent_in_order}
-use Rattle.flume_actions.proofs.GotInOrderLemmas.{got_all}
+use Rattle.flume_laws.specs.Together.{Interleaved, EachAreCalls, AreExchanged}
+use Rattle.flume_laws.proofs.MergeLemmas.{leave_out}
+use Rattle.flume_laws.proofs.PartyLemmas.{all_parties}
+use Rattle.flume_laws.proofs.SentOrderLemmas.{sent_in_order}
+use Rattle.flume_laws.proofs.GotInOrderLemmas.{got_all}
 
 pub exchange : {T A : Type 0} {capacity : Option ℕ} {parties : List (List (Action T A))}
     {all : List (Action T A)} {sents gots : List (List T)} → Interleaved parties all

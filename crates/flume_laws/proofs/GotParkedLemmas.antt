@@ -17,11 +17,11 @@ use Rattle.flume_model.specs.Channel.{Channel, channel}
 use Rattle.flume_model.specs.Parked.{LogEntry, entries}
 use Rattle.flume_model.specs.Replies.{IsRun}
 use Rattle.flume_model.proofs.EntryShapeLemmas.{entered, filled_if_named, fits_run}
-use Rattle.flume_actions.proofs.TurnLemmas.{Stand, parked_of, Turn, Acts, Parks, Asks, Ends, Leaves}
-use Rattle.flume_actions.proofs.TurnLemmas.{Blocks, Waits, Hears, Withdraws, answered, stays_parked, is_last}
-use Rattle.flume_actions.proofs.GotMemberLemmas.{here}
-use Rattle.flume_actions.proofs.GotEntryLemmas.{stands}
-use Rattle.flume_actions.proofs.GotEffectLemmas.{in_hand, Effect, unparked}
+use Rattle.flume_laws.proofs.TurnLemmas.{Stand, parked_of, Turn, Acts, Parks, Asks, Ends, Leaves}
+use Rattle.flume_laws.proofs.TurnLemmas.{Blocks, Waits, Hears, Withdraws, answered, stays_parked, is_last}
+use Rattle.flume_laws.proofs.GotMemberLemmas.{here}
+use Rattle.flume_laws.proofs.GotEntryLemmas.{stands}
+use Rattle.flume_laws.proofs.GotEffectLemmas.{in_hand, Effect, unparked}
 
 module _ {T : Type 0} where
   -- a parked receiver gets a message: it collects it if it was filled, and else takes the front

@@ -18,14 +18,14 @@ use Rattle.flume_model.specs.Replies.{IsRun}
 use Rattle.flume_model.proofs.fills.FillsOrderLemmas.{in_order}
 use Rattle.flume_model.proofs.order.KeptLemmas.{line_is_open}
 use Rattle.flume_actions.specs.Actions.{Action}
-use Rattle.flume_actions.specs.Together.{Interleaved}
-use Rattle.flume_actions.proofs.TurnLemmas.{parked_of}
-use Rattle.flume_actions.proofs.PartyLemmas.{Member, AreFree, Parties}
-use Rattle.flume_actions.proofs.GotMemberLemmas.{here, parked_under}
-use Rattle.flume_actions.proofs.GotDueLemmas.{AreDue}
-use Rattle.flume_actions.proofs.GotEntryLemmas.{stands, held_stands}
-use Rattle.flume_actions.proofs.GotEffectLemmas.{as_list, final, in_hand}
-use Rattle.flume_actions.proofs.GotRunLemmas.{to_come, outcome}
+use Rattle.flume_laws.specs.Together.{Interleaved}
+use Rattle.flume_laws.proofs.TurnLemmas.{parked_of}
+use Rattle.flume_laws.proofs.PartyLemmas.{Member, AreFree, Parties}
+use Rattle.flume_laws.proofs.GotMemberLemmas.{here, parked_under}
+use Rattle.flume_laws.proofs.GotDueLemmas.{AreDue}
+use Rattle.flume_laws.proofs.GotEntryLemmas.{stands, held_stands}
+use Rattle.flume_laws.proofs.GotEffectLemmas.{as_list, final, in_hand}
+use Rattle.flume_laws.proofs.GotRunLemmas.{to_come, outcome}
 
 -- what none are left of is all
 taken_all : {X : Type 0} (n : ℕ) (xs : List X) → drop n xs ≡ [] → take n xs ≡ xs

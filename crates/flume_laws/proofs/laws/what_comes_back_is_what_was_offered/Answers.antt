@@ -1,5 +1,5 @@
-use Rattle.flume_actions.proofs.ComesBackLemmas.{run_of, polled_back, send_back}
-use Rattle.flume_actions.proofs.laws.what_comes_back_is_what_was_offered.Goals as goal
+use Rattle.flume_laws.proofs.ComesBackLemmas.{run_of, polled_back, send_back}
+use Rattle.flume_laws.proofs.laws.what_comes_back_is_what_was_offered.Goals as goal
 
 pub returns : goal.returns
 returns g c = record {

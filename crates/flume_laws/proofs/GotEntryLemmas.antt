@@ -21,7 +21,7 @@ use Rattle.flume_model.proofs.EntryListLemmas.{round_for_push, again_cases, leav
 use Rattle.flume_model.proofs.EntryListLemmas.{fills_none_else}
 use Rattle.flume_model.proofs.EntryMarkLemmas.{left_out, none_past, apart_without}
 use Rattle.flume_model.proofs.EntryChangeLemmas.{fills}
-use Rattle.flume_actions.proofs.GotMemberLemmas.{here}
+use Rattle.flume_laws.proofs.GotMemberLemmas.{here}
 
 module _ {T N : Type 0} where
   -- one if there is an entry

@@ -5,8 +5,8 @@ ghost use Rattle.flume_error.specs.Messages.{send_timeout_message};
 ghost use Rattle.flume_core.specs.declared.error.SendTimeoutError.{SendTimeoutError};
 ghost use Rattle.flume_actions.specs.Actions.{Action, IsWhole};
 ghost use Rattle.flume_actions.specs.SendCalls.{IsSend, IsPolledSend};
-ghost use Rattle.flume_actions.specs.Together.{Interleaved, EachAreCalls, AreExchanged};
-ghost use Rattle.flume_actions.specs.Together.{AreRouted};
+ghost use Rattle.flume_laws.specs.Together.{Interleaved, EachAreCalls, AreExchanged};
+ghost use Rattle.flume_laws.specs.Together.{AreRouted};
 
 use std::alloc::Allocator;
 

@@ -16,19 +16,19 @@ use Rattle.flume_model.proofs.EntryShapeLemmas.{filled_if_named, entries_apart}
 use Rattle.flume_model.proofs.fills.FillsKeptLemmas.{filled_holds, filled_stood}
 use Rattle.flume_model.proofs.waits.WaitingStepLemmas.{stepped}
 use Rattle.flume_actions.specs.Actions.{Action}
-use Rattle.flume_actions.specs.Together.{Interleaved}
-use Rattle.flume_actions.proofs.TurnLemmas.{Course}
-use Rattle.flume_actions.proofs.PartyLemmas.{Member, actions_of}
-use Rattle.flume_actions.proofs.GotMemberLemmas.{parked_under, parked_else}
-use Rattle.flume_actions.proofs.GotMemberLemmas.{parked_one, next}
-use Rattle.flume_actions.proofs.GotDueLemmas.{Due, due_more, due_filled, due_none}
-use Rattle.flume_actions.proofs.GotEntryLemmas.{stands, stands_by, held_stands}
-use Rattle.flume_actions.proofs.GotEntryLemmas.{filled_was_empty}
-use Rattle.flume_actions.proofs.GotEffectLemmas.{as_list, final, in_hand, named_is_filled}
-use Rattle.flume_actions.proofs.GotParkedLemmas.{effect}
-use Rattle.flume_actions.proofs.GotShownLemmas.{in_hand_else, in_hand_filled, run_before}
-use Rattle.flume_actions.proofs.GotShownLemmas.{open_before}
-use Rattle.flume_actions.proofs.GotShownLemmas.{shown_now}
+use Rattle.flume_laws.specs.Together.{Interleaved}
+use Rattle.flume_laws.proofs.TurnLemmas.{Course}
+use Rattle.flume_laws.proofs.PartyLemmas.{Member, actions_of}
+use Rattle.flume_laws.proofs.GotMemberLemmas.{parked_under, parked_else}
+use Rattle.flume_laws.proofs.GotMemberLemmas.{parked_one, next}
+use Rattle.flume_laws.proofs.GotDueLemmas.{Due, due_more, due_filled, due_none}
+use Rattle.flume_laws.proofs.GotEntryLemmas.{stands, stands_by, held_stands}
+use Rattle.flume_laws.proofs.GotEntryLemmas.{filled_was_empty}
+use Rattle.flume_laws.proofs.GotEffectLemmas.{as_list, final, in_hand, named_is_filled}
+use Rattle.flume_laws.proofs.GotParkedLemmas.{effect}
+use Rattle.flume_laws.proofs.GotShownLemmas.{in_hand_else, in_hand_filled, run_before}
+use Rattle.flume_laws.proofs.GotShownLemmas.{open_before}
+use Rattle.flume_laws.proofs.GotShownLemmas.{shown_now}
 
 module _ {T A : Type 0} where
   -- the messages that are handed out from a moment on

@@ -1,0 +1,38 @@
+-- Lists merged into one: what each element makes, and what each counts.
+mod MergeLemmas
+-- A party's actions as turns, one after the other, and what it sends and gets by them.
+mod TurnLemmas
+-- The actions of whole calls are a course, which sends and gets what the calls did.
+mod CallLemmas
+-- Parties, by their courses.
+mod PartyLemmas
+-- Parties of which one makes the next action.
+mod GotMemberLemmas
+-- What parties are still to get, merged, before one of them got more and before one was filled.
+mod GotDueLemmas
+-- How many entries have a ticket after each change, and that a filled receiver held nothing before.
+mod GotEntryLemmas
+-- What one action of a party hands out: what the party gets by it now, and what fills another.
+mod GotEffectLemmas
+-- What each turn of a party hands out, also of one that is parked.
+mod GotParkedLemmas
+-- What is shown to a receiver stays so to the end of a run, and what it was handed before a fill.
+mod GotShownLemmas
+-- What is handed out from a moment of a run on is what its parties are still due.
+mod GotRunLemmas
+-- What parties got is what was handed out, in its order.
+mod GotInOrderLemmas
+-- What an action of a run offers, and how often a ticket of a send is issued and ended.
+mod SentOfferLemmas
+-- What a course sends is what its actions offer, and it ends each ticket as often as it issues it.
+mod SentCourseLemmas
+-- What some parties sent, together, is what is kept of the offers of a run, in their order.
+mod SentOrderLemmas
+-- What whole calls sent is what they got.
+mod ExchangeLemmas
+-- What each receiver got of each sender.
+mod RouteLemmas
+-- The message that comes back from a call that sends is the one that it offered.
+mod ComesBackLemmas
+-- What callers cite: parties that become one again, and what they sent and got.
+pub mod TakeInLemmas

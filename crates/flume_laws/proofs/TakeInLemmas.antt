@@ -1,0 +1,134 @@
+-- What callers cite: parties that become one again, and what they sent and got.
+use Rattle.std.proofs.Common.{◌≡◌, ℕ, true, List, [], ◌∷◌, ◌++◌, Option, ap, sym, subst, ◌∙◌}
+use Rattle.flume_party.specs.Interleavings.{Interleaving}
+use Rattle.flume_party.specs.Parties.{PartyState, party_of, Merged}
+use Rattle.flume_party.proofs.InterleavingLemmas.{interleaved_alone, interleaved_swap}
+use Rattle.flume_actions.specs.Actions.{Action, IsWhole}
+use Rattle.flume_actions.specs.Callers.{HasMadeCalls}
+use Rattle.flume_laws.specs.Together.{Interleaved, AreExchanged}
+use Rattle.flume_laws.specs.Together.{EachAreCalls, NoParty, AndParty}
+use Rattle.flume_laws.proofs.MergeLemmas.{leave_out}
+use Rattle.flume_laws.proofs.ExchangeLemmas.{exchange}
+
+module _ {X : Type 0} where
+  -- one list alone is in order
+  pub one_in_order : {xs line : List X} → Interleaved (xs ∷ []) line → line ≡ xs
+  one_in_order {xs = xs} {line = line} merged =
+      interleaved_alone xs line (subst (λ none. Interleaving xs none line) merged.1 merged.2)
+
+  -- two lists, the last first, are merged
+  pub two_in_order : {xs ys line : List X} → Interleaved (ys ∷ xs ∷ []) line
+      → Interleaving xs ys line
+  two_in_order {xs = xs} {ys = ys} {line = line} merged =
+      interleaved_swap ys xs line (subst (λ other. Interleaving ys other line)
+      (one_in_order merged.1) merged.2)
+
+module _ {T A : Type 0} where
+  -- A party that took in others: what those sent and got by whole calls, the last first. Who sent
+  -- nothing is left out of the first lists, and who got nothing of the second.
+  pub record HasTakenIn (party : PartyState (Action T A)) (sents gots : List (List T)) : Type 0 where
+    pub parties : List (List (Action T A))
+    pub all_sents : List (List T)
+    pub all_gots : List (List T)
+    pub merged : Interleaved parties party.actions
+    pub calls : EachAreCalls parties all_sents all_gots
+    pub sent : (line : List T) → Interleaved all_sents line → Interleaved sents line
+    pub got : (line : List T) → Interleaved all_gots line → Interleaved gots line
+
+  -- a party that did nothing
+  pub none_taken_in : {party : PartyState (Action T A)} {parts : ℕ} → party ≡ party_of parts []
+      → HasTakenIn party [] []
+  none_taken_in new = record {
+    parties = [];
+    all_sents = [];
+    all_gots = [];
+    merged = ap (λ p. p.actions) new;
+    calls = NoParty;
+    sent = λ line all. all;
+    got = λ line all. all;
+  }
+
+  -- one is split off
+  pub split_off : {party rest : PartyState (Action T A)} {parts : ℕ} {sents gots : List (List T)}
+      → HasTakenIn party sents gots → rest ≡ party_of parts party.actions
+      → HasTakenIn rest sents gots
+  split_off {sents = sents} {gots = gots} before rest =
+      subst (λ p. HasTakenIn p sents gots) (sym rest) (record {
+        parties = before.parties;
+        all_sents = before.all_sents;
+        all_gots = before.all_gots;
+        merged = before.merged;
+        calls = before.calls;
+        sent = before.sent;
+        got = before.got;
+      })
+
+  -- one that was new is taken in after its calls
+  pub take_in : {party new other both : PartyState (Action T A)} {parts : ℕ} {sent got : List T}
+      {sents gots : List (List T)} → HasTakenIn party sents gots → new ≡ party_of parts []
+      → HasMadeCalls new other sent got → Merged party other both
+      → HasTakenIn both (sent ∷ sents) (got ∷ gots)
+  take_in {party = party} {both = both} before fresh did merge =
+      let actions = ap (λ p. p.actions) did.made ∙ ap (λ p. p.actions ++ did.actions) fresh in
+      record {
+        parties = did.actions ∷ before.parties;
+        all_sents = _ ∷ before.all_sents;
+        all_gots = _ ∷ before.all_gots;
+        merged = (
+          party.actions,
+          before.merged,
+          subst (λ list. Interleaving list party.actions both.actions) actions
+              (interleaved_swap _ _ _ merge.actions),
+        );
+        calls = AndParty did.calls before.calls;
+        sent = λ line all. (all.0, before.sent all.0 all.1, all.2);
+        got = λ line all. (all.0, before.got all.0 all.1, all.2);
+      }
+
+  -- one that only sent
+  pub take_in_sender : {party new other both : PartyState (Action T A)} {parts : ℕ} {sent : List T}
+      {sents gots : List (List T)} → HasTakenIn party sents gots → new ≡ party_of parts []
+      → HasMadeCalls new other sent [] → Merged party other both
+      → HasTakenIn both (sent ∷ sents) gots
+  take_in_sender {gots = gots} before fresh did merge =
+      let all = take_in before fresh did merge in
+      record {
+        parties = all.parties;
+        all_sents = all.all_sents;
+        all_gots = all.all_gots;
+        merged = all.merged;
+        calls = all.calls;
+        sent = all.sent;
+        got = λ line list. leave_out gots line (all.got line list);
+      }
+
+  -- one that only received
+  pub take_in_receiver : {party new other both : PartyState (Action T A)} {parts : ℕ} {got : List T}
+      {sents gots : List (List T)} → HasTakenIn party sents gots → new ≡ party_of parts []
+      → HasMadeCalls new other [] got → Merged party other both
+      → HasTakenIn both sents (got ∷ gots)
+  take_in_receiver {sents = sents} before fresh did merge =
+      let all = take_in before fresh did merge in
+      record {
+        parties = all.parties;
+        all_sents = all.all_sents;
+        all_gots = all.all_gots;
+        merged = all.merged;
+        calls = all.calls;
+        sent = λ line list. leave_out sents line (all.sent line list);
+        got = all.got;
+      }
+
+  -- if its actions are all there were, and the channel was emptied, what was sent is what was got
+  pub exchanged : {party : PartyState (Action T A)} {sents gots : List (List T)}
+      {capacity : Option ℕ} → HasTakenIn party sents gots → IsWhole capacity party.actions true
+      → AreExchanged sents gots
+  exchanged all whole =
+      let both = exchange all.merged all.calls whole in
+      (both.0, all.sent both.0 both.1, all.got both.0 both.2)
+
+module _ {T : Type 0} where
+  -- one sender and one receiver
+  pub same_in_order : {sent got : List T} → AreExchanged (sent ∷ []) (got ∷ []) → sent ≡ got
+  same_in_order all =
+      sym (one_in_order all.1) ∙ one_in_order all.2

@@ -1,0 +1,8 @@
+//! The laws of what parties did, together: what they sent is what they got, in order.
+#![tactic(auto)]
+
+mod laws;
+
+pub use laws::{
+    each_pair_keeps_its_order, what_comes_back_is_what_was_offered, what_was_sent_is_what_was_got,
+};
