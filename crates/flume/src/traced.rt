@@ -3,7 +3,7 @@
 //! Each call takes a *party*, `me`, which knows its own actions and has no bytes. A program splits
 //! off a party for each thread, and merges them again. Who has all parts knows by `settle` that its
 //! actions are all that sent or received there. If it answers true, `what_was_sent_is_what_was_got`
-//! of `flume_actions` says: what its threads sent is what they received.
+//! of `flume_laws` says: what its threads sent is what they received.
 //! ```
 //! let channel = UnopenedChannel::bounded(4, 2);
 //! let (tx, rx, mut me) = flume::on(rt).traced::<u64, Brand>(channel)?;
