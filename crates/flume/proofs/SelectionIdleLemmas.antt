@@ -102,9 +102,9 @@ module _ {L M : Type 0} {mappers : L → M} {all_idle : L → Type 0} {others_id
   idle_raced kept count start (call.Races.Refused tried) idle = idle_tried kept count _ tried idle
   idle_raced kept count start (call.Races.Awaited tried waited) idle = awaited kept count _ waited (idle_tried kept count _ tried idle)
 
-module _ {M V P : Type 0} (completes : M → ℕ → V → P → Type 0) (stand_by : M → P → Type 0) (mappers : M) (parties : P) (arm : ℕ) where
+module _ {M V P : Type 0} (completes : M → V → P → Type 0) (stand_by : M → P → Type 0) (mappers : M) (parties : P) where
   -- what the parties did by a try that has a value
-  pub tried_parties : (value : Option V) → IsSome value → IfSome value (λ v. completes mappers arm v parties)
+  pub tried_parties : (value : Option V) → IsSome value → IfSome value (λ v. completes mappers v parties)
       → HasTriedArms completes stand_by mappers (Ok value) parties
-  tried_parties (Some value) some did = (arm, did)
+  tried_parties (Some value) some did = did
   tried_parties None some did = absurd (let none : ⊥ = cc in none)

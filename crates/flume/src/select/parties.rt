@@ -49,8 +49,8 @@ pub trait ArmsBy<V, A: Allocator + Copy>: Arms<V, A> {
     // All but the arm with this number.
     ghost others_idle: { Self → ℕ → Type 0 };
 
-    // The arm with this number completed.
-    ghost completes: { Self.Mappers → ℕ → V → Self.Parties → Type 0 };
+    // One of them completed, with this value.
+    ghost completes: { Self.Mappers → V → Self.Parties → Type 0 };
 
     // None completed.
     ghost stand_by: { Self.Mappers → Self.Parties → Type 0 };
@@ -62,7 +62,7 @@ pub trait ArmsBy<V, A: Allocator + Copy>: Arms<V, A> {
         ensures answers { IfSome result.0 (Self.answers self arm) }
         ensures maps { IfSome result.0 (Self.maps (Self.mappers self) arm) }
         ensures completes { others_idle self arm
-            → IfSome result.0 (λ value. completes (Self.mappers self) arm value result.1) };
+            → IfSome result.0 (λ value. completes (Self.mappers self) value result.1) };
 
     /// The parties alone. Arms that are parked are withdrawn first.
     fn into_parties(self) -> Self::Parties
@@ -80,7 +80,7 @@ impl<V, A: Allocator + Copy> ArmsBy<V, A> for () {
 
     ghost others_idle = { λ _ _. Unit {0} };
 
-    ghost completes = { λ _ _ _ _. ⊥ };
+    ghost completes = { λ _ _ _. ⊥ };
 
     ghost stand_by = { λ _ _. Unit {0} };
 
@@ -102,6 +102,7 @@ impl<V, A: Allocator + Copy> ArmsBy<V, A> for () {
 
 impl<V, A: Allocator + Copy, L: ArmsBy<V, A> + Drop, C: ArmBy<V, A> + Drop> ArmsBy<V, A>
     for (L, C) {
+    ghost use Rattle.std.specs.Prelude.{◌⊎◌};
     ghost use Rattle.flume.specs.Selections.{ByNumber};
 
     type Parties = (L::Parties, C::Party);
@@ -111,9 +112,9 @@ impl<V, A: Allocator + Copy, L: ArmsBy<V, A> + Drop, C: ArmBy<V, A> + Drop> Arms
     ghost others_idle = { λ arms arm. ByNumber (L.count (L.mappers arms.0))
         (λ n. L.others_idle arms.0 n × C.is_idle arms.1) (L.all_idle arms.0) arm };
 
-    ghost completes = { λ mappers arm value parties. ByNumber (L.count mappers.0)
-        (λ n. L.completes mappers.0 n value parties.0 × C.stands_by mappers.1 parties.1)
-        (L.stand_by mappers.0 parties.0 × C.completes mappers.1 value parties.1) arm };
+    ghost completes = { λ mappers value parties.
+        (L.completes mappers.0 value parties.0 × C.stands_by mappers.1 parties.1)
+        ⊎ (L.stand_by mappers.0 parties.0 × C.completes mappers.1 value parties.1) };
 
     ghost stand_by = { λ mappers parties.
         L.stand_by mappers.0 parties.0 × C.stands_by mappers.1 parties.1 };

@@ -17,8 +17,6 @@ returns-clause-made g c = race_won c.in-Ok.ensures.run (rw c.in-Some.is at c.val
 
 pub returns-clause-called : goal.returns-clause-called
 returns-clause-called g c = λ idle.
-    let others = idle_raced g.met.L.ArmsBy.idle _ _ c.in-Ok.ensures.run idle in (
-      c.in-Ok.arm,
-      subst (λ m. g.L.ArmsBy.completes m c.in-Ok.arm c.in-Some.value c.value_by-value.result.1) c.race.ensures.mappers
-          (rw c.in-Some.is at (c.value_by-value.ensures.completes others)),
-    )
+    let others = idle_raced g.met.L.ArmsBy.idle _ _ c.in-Ok.ensures.run idle in
+    subst (λ m. g.L.ArmsBy.completes m c.in-Some.value c.value_by-value.result.1) c.race.ensures.mappers
+    (rw c.in-Some.is at (c.value_by-value.ensures.completes others))

@@ -20,7 +20,7 @@ returns-in-Ok-Some-clause-called g c = λ idle.
     let others = idle_tried g.met.L.ArmsBy.idle _ _ tried idle in
     subst (λ m. HasTriedArms g.L.ArmsBy.completes g.L.ArmsBy.stand_by m (Ok c.value_by-value.result.0) c.value_by-value.result.1)
     (ap (λ s. s.0) c.try_select_over.ensures.setup)
-    (tried_parties g.L.ArmsBy.completes g.L.ArmsBy.stand_by _ _ c.in-Ok-Some.arm _ (c.value_by-value.ensures.completed.0 completed.completed) (c.value_by-value.ensures.completes others))
+    (tried_parties g.L.ArmsBy.completes g.L.ArmsBy.stand_by _ _ _ (c.value_by-value.ensures.completed.0 completed.completed) (c.value_by-value.ensures.completes others))
 
 pub returns-in-Ok-None-clause-made : goal.returns-in-Ok-None-clause-made
 returns-in-Ok-None-clause-made g c = Tries.EachWaits
