@@ -1,0 +1,68 @@
+//! Receives from channels with a trace.
+ghost use Rattle.std.specs.Prelude.{[], option_to_list};
+ghost use Rattle.flume_deadline.specs.declared.Deadline.{Deadline};
+ghost use Rattle.flume_actions.specs.Calls.{HasCalled, got_by, drained_by};
+ghost use Rattle.flume.specs.GateSteps.{Receives};
+
+use flume::error::NoMemory;
+use flume::traced::{ChannelName, ChannelParty, Traced, TracedReceiver};
+use flume::{Drain, Iter, RecvError, RecvTimeoutError, TryRecvError, Waits};
+use std::alloc::{Allocator, Global};
+use std::time::Instant;
+
+/// Takes the next message, and doesn't wait. The party made one call, which got that message if the
+/// result is `Ok`, and nothing otherwise.
+pub fn try_receive<T: Drop, J: ChannelName, R: Waits>(
+    rx: &TracedReceiver<T, R, J>,
+    me: &mut ChannelParty<T, J>,
+) -> Result<T, TryRecvError>
+    ensures got { HasCalled me.old me.new [] (got_by result) }
+{
+    rx.try_recv(me)
+}
+
+/// Takes the next message, and waits while there is none. The party made one call, which got that
+/// message if the result is `Ok`, and nothing otherwise.
+pub fn receive<T: Drop, J: ChannelName, R: Waits>(
+    rx: &TracedReceiver<T, R, J>,
+    me: &mut ChannelParty<T, J>,
+) -> Result<T, RecvError>
+    ensures got { HasCalled me.old me.new [] (got_by result) }
+{
+    rx.recv(me)
+}
+
+/// Takes the next message, and waits up to the deadline. The party made one call, whose steps are
+/// those of a receive up to this deadline. It got that message if the result is `Ok`, and nothing
+/// otherwise.
+pub fn receive_in_time<T: Drop, J: ChannelName, R: Waits, A: Allocator + Copy>(
+    rx: &TracedReceiver<T, R, J, A>,
+    me: &mut ChannelParty<T, J, A>,
+    deadline: Instant,
+) -> Result<T, RecvTimeoutError>
+    ensures got { HasCalled me.old me.new [] (got_by result) }
+    ensures in_time { Receives A (Deadline.At deadline) result }
+{
+    rx.recv_deadline(me, deadline)
+}
+
+/// Takes all messages that are queued. The party made one call, which got the messages that the
+/// drain has, in their order.
+pub fn receive_all<'a, T: Drop, J: ChannelName, R: Waits>(
+    rx: &'a TracedReceiver<T, R, J>,
+    me: &mut ChannelParty<T, J>,
+) -> Result<Drain<'a, T>, NoMemory>
+    ensures got { HasCalled me.old me.new [] (drained_by result) }
+{
+    rx.drain(me)
+}
+
+/// The next message of an iterator. Its party made one call, which got that message, or nothing if
+/// the result is `None`.
+pub fn next_message<T: Drop, J: ChannelName, R: Waits>(
+    messages: &mut Iter<'_, T, R, Global, Traced<T, Global, J>>,
+) -> Option<T>
+    ensures got { HasCalled messages.old.party messages.new.party [] (option_to_list result) }
+{
+    messages.next()
+}
