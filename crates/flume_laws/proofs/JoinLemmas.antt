@@ -17,7 +17,7 @@ module _ {X : Type 0} where
   one_behind (x ∷ xs) ys = Left (one_behind xs ys)
 
   -- of three lists, the last two are merged first
-  right_first : (xs ys both zs all : List X) → Interleaving xs ys both → Interleaving both zs all
+  pub right_first : (xs ys both zs all : List X) → Interleaving xs ys both → Interleaving both zs all
       → (others : List X) × Interleaving ys zs others × Interleaving xs others all
   right_first xs ys both zs all merged rest = by_rest rest xs ys merged
     where

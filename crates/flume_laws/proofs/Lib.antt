@@ -42,3 +42,5 @@ mod PhaseLemmas
 mod ComesBackLemmas
 -- What callers cite: parties that become one again, and what they sent and got.
 pub mod TakeInLemmas
+-- What callers cite: a party that goes on after it took in others, so that they sent before it.
+pub mod GoOnLemmas

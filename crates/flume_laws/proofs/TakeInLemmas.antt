@@ -5,10 +5,11 @@ use Rattle.flume_party.specs.Parties.{PartyState, party_of, Merged}
 use Rattle.flume_party.proofs.InterleavingLemmas.{interleaved_alone, interleaved_swap}
 use Rattle.flume_actions.specs.Actions.{Action, IsWhole}
 use Rattle.flume_actions.specs.Callers.{HasMadeCalls}
-use Rattle.flume_laws.specs.Together.{Interleaved, AreExchanged}
+use Rattle.flume_laws.specs.Together.{Interleaved, AreExchanged, sum_over_all}
 use Rattle.flume_laws.specs.Together.{EachAreCalls, NoParty, AndParty}
 use Rattle.flume_laws.proofs.MergeLemmas.{leave_out}
 use Rattle.flume_laws.proofs.ExchangeLemmas.{exchange}
+use Rattle.flume_laws.proofs.SumLemmas.{same_sum}
 
 module _ {X : Type 0} where
   -- one list alone is in order
@@ -126,6 +127,12 @@ module _ {T A : Type 0} where
   exchanged all whole =
       let both = exchange all.merged all.calls whole in
       (both.0, all.sent both.0 both.1, all.got both.0 both.2)
+
+  -- so each sum over what was sent is the sum over what was got
+  pub sums_kept : {party : PartyState (Action T A)} {sents gots : List (List T)}
+      {capacity : Option ℕ} → HasTakenIn party sents gots → IsWhole capacity party.actions true
+      → (weight : T → ℕ) → sum_over_all weight sents ≡ sum_over_all weight gots
+  sums_kept all whole weight = same_sum weight _ _ (exchanged all whole)
 
 module _ {T : Type 0} where
   -- one sender and one receiver
