@@ -44,3 +44,5 @@ mod ComesBackLemmas
 pub mod TakeInLemmas
 -- What callers cite: a party that goes on after it took in others, so that they sent before it.
 pub mod GoOnLemmas
+-- What callers cite: an invariant of their own, before the first call and after one more.
+pub mod InvariantLemmas
