@@ -32,7 +32,17 @@ mod SentOrderLemmas
 mod ExchangeLemmas
 -- What each receiver got of each sender.
 mod RouteLemmas
+-- Sums over the lists of parties.
+mod SumLemmas
+-- Lists that are merged of merged ones.
+mod JoinLemmas
+-- What some parties sent before others sent.
+mod PhaseLemmas
 -- The message that comes back from a call that sends is the one that it offered.
 mod ComesBackLemmas
 -- What callers cite: parties that become one again, and what they sent and got.
 pub mod TakeInLemmas
+-- What callers cite: a party that goes on after it took in others, so that they sent before it.
+pub mod GoOnLemmas
+-- What callers cite: an invariant of their own, before the first call and after one more.
+pub mod InvariantLemmas

@@ -49,7 +49,7 @@ module _ {T A : Type 0} where
   }
 
   -- those that made whole calls
-  calling : (parties : List (List (Action T A))) (sents gots : List (List T))
+  pub calling : (parties : List (List (Action T A))) (sents gots : List (List T))
       (all : List (Action T A)) → EachAreCalls parties sents gots → Interleaved parties all
       → Parties all sents gots
   calling _ _ _ all NoParty none =

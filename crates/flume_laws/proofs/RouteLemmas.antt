@@ -1,5 +1,5 @@
 -- What each receiver got of each sender.
-use Rattle.std.proofs.Common.{◌≡◌, List, [], ◌∷◌, refl, sym, subst}
+use Rattle.std.proofs.Common.{◌≡◌, List, [], ◌∷◌, refl}
 use Rattle.flume_party.specs.Interleavings.{Interleaving, End, Left, Right}
 use Rattle.flume_laws.specs.Together.{Interleaved, AreExchanged, AreEmpty, AreRouted}
 use Rattle.flume_laws.specs.Together.{EachMerged, NoList, AndLists}

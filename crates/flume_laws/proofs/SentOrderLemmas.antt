@@ -20,7 +20,7 @@ use Rattle.flume_laws.proofs.SentCourseLemmas.{blocked_under, kept_of, course_co
 
 module _ {T A : Type 0} where
   -- parties that are free end each ticket as often as they issue it
-  balanced : (members : List (Member T A)) (all : List (Action T A)) (t : ℕ) → AreFree members
+  pub balanced : (members : List (Member T A)) (all : List (Action T A)) (t : ℕ) → AreFree members
       → Interleaved (actions_of members) all
       → tally (issues t) all ≡ tally (returns t) all + tally (passes t) all
   balanced [] all t free none = rw none refl
@@ -35,7 +35,7 @@ module _ {T A : Type 0} where
   )
 
   -- what each party sent is what its actions offer and keep
-  parties_sent : (keeps : Offer T → Bool) (members : List (Member T A)) (all : List (Action T A))
+  pub parties_sent : (keeps : Offer T → Bool) (members : List (Member T A)) (all : List (Action T A))
       → AreFree members → Interleaved (actions_of members) all → Judges keeps all
       → Interleaved (map (λ member. member.sent) members) (flat_map (sent_of keeps) all)
   parties_sent keeps [] all free none judges = ap (flat_map (sent_of keeps)) none
@@ -55,7 +55,7 @@ module _ {T A : Type 0} where
       )
 
   -- the actions of parties say of each offer of a run whether it is kept
-  judged : (o : Opening) (history : List (Action T A)) → IsRun o (reverse history)
+  pub judged : (o : Opening) (history : List (Action T A)) → IsRun o (reverse history)
       → ((t : ℕ) → tally (issues t) history ≡ tally (returns t) history + tally (passes t) history)
       → Judges (λ offer. not (withdrawn (reverse history) offer)) history
   judged o history run same = record {

@@ -1,14 +1,17 @@
 -- What callers cite: parties that become one again, and what they sent and got.
-use Rattle.std.proofs.Common.{◌≡◌, ℕ, true, List, [], ◌∷◌, ◌++◌, Option, ap, sym, subst, ◌∙◌}
+use Rattle.std.proofs.Common.{◌≡◌, ℕ, true, List, [], ◌∷◌, ◌++◌, Option, refl, ap, sym, subst, ◌∙◌}
 use Rattle.flume_party.specs.Interleavings.{Interleaving}
 use Rattle.flume_party.specs.Parties.{PartyState, party_of, Merged}
 use Rattle.flume_party.proofs.InterleavingLemmas.{interleaved_alone, interleaved_swap}
 use Rattle.flume_actions.specs.Actions.{Action, IsWhole}
 use Rattle.flume_actions.specs.Callers.{HasMadeCalls}
-use Rattle.flume_laws.specs.Together.{Interleaved, AreExchanged}
-use Rattle.flume_laws.specs.Together.{EachAreCalls, NoParty, AndParty}
+use Rattle.flume_laws.specs.Together.{Interleaved, AreExchanged, sum_over_all}
+use Rattle.flume_laws.specs.Together.{EachAreCalls, NoParty, AndParty, AreRouted}
+use Rattle.flume_laws.proofs.JoinLemmas.{only_right}
+use Rattle.flume_laws.proofs.RouteLemmas.{routed}
 use Rattle.flume_laws.proofs.MergeLemmas.{leave_out}
 use Rattle.flume_laws.proofs.ExchangeLemmas.{exchange}
+use Rattle.flume_laws.proofs.SumLemmas.{same_sum}
 
 module _ {X : Type 0} where
   -- one list alone is in order
@@ -22,6 +25,11 @@ module _ {X : Type 0} where
   two_in_order {xs = xs} {ys = ys} {line = line} merged =
       interleaved_swap ys xs line (subst (λ other. Interleaving ys other line)
       (one_in_order merged.1) merged.2)
+
+  -- and back, the first one first
+  pub first_two : {xs ys line : List X} → Interleaving xs ys line
+      → Interleaved (xs ∷ ys ∷ []) line
+  first_two {ys = ys} merged = (ys, ([], refl, interleaved_swap [] ys ys (only_right ys)), merged)
 
 module _ {T A : Type 0} where
   -- A party that took in others: what those sent and got by whole calls, the last first. Who sent
@@ -127,8 +135,22 @@ module _ {T A : Type 0} where
       let both = exchange all.merged all.calls whole in
       (both.0, all.sent both.0 both.1, all.got both.0 both.2)
 
+  -- so each sum over what was sent is the sum over what was got
+  pub sums_kept : {party : PartyState (Action T A)} {sents gots : List (List T)}
+      {capacity : Option ℕ} → HasTakenIn party sents gots → IsWhole capacity party.actions true
+      → (weight : T → ℕ) → sum_over_all weight sents ≡ sum_over_all weight gots
+  sums_kept all whole weight = same_sum weight _ _ (exchanged all whole)
+
 module _ {T : Type 0} where
   -- one sender and one receiver
   pub same_in_order : {sent got : List T} → AreExchanged (sent ∷ []) (got ∷ []) → sent ≡ got
   same_in_order all =
       sym (one_in_order all.1) ∙ one_in_order all.2
+
+  -- two senders and two receivers: who got what from whom
+  pub two_routed : {first second left right : List T}
+      → AreExchanged (second ∷ first ∷ []) (right ∷ left ∷ [])
+      → AreRouted (first ∷ second ∷ []) (left ∷ right ∷ [])
+  two_routed {first = first} {second = second} {left = left} {right = right} all =
+      routed (first ∷ second ∷ []) (left ∷ right ∷ [])
+      (all.0, first_two (two_in_order all.1), first_two (two_in_order all.2))

@@ -1,5 +1,6 @@
 -- Several parties together.
-use Rattle.std.specs.Prelude.{◌≡◌, List, [], ◌∷◌}
+use Rattle.std.specs.Prelude.{◌≡◌, ℕ, List, [], ◌∷◌, ◌++◌}
+use Rattle.std.specs.List.{sum_by}
 use Rattle.flume_party.specs.Interleavings.{Interleaving}
 use Rattle.flume_actions.specs.Actions.{Action}
 use Rattle.flume_actions.specs.Calls.{AreCalls}
@@ -14,6 +15,17 @@ module _ {X : Type 0} where
   -- what some parties sent, together, is what some parties got, in one order
   abbrev pub AreExchanged : List (List X) → List (List X) → Type 0
   AreExchanged sents gots = (line : List X) × Interleaved sents line × Interleaved gots line
+
+  -- What some parties sent early, what some sent late, and what others sent, is what some got, in one
+  -- order. All that was sent early comes before all that was sent late.
+  abbrev pub AreExchangedInPhases : (early late others gots : List (List X)) → Type 0
+  AreExchangedInPhases early late others gots = (first second rest line : List X)
+      × Interleaved early first × Interleaved late second × Interleaved others rest
+      × Interleaving (first ++ second) rest line × Interleaved gots line
+
+  -- the sum of the weights of all elements of all these lists
+  abbrev pub sum_over_all : (X → ℕ) → List (List X) → ℕ
+  sum_over_all weight lists = sum_by (sum_by weight) lists
 
   -- at each place, the last list is merged of the other two
   pub data EachMerged : List (List X) → List (List X) → List (List X) → Type 0 where

@@ -1,12 +1,13 @@
 //! Laws of what parties did. These functions do nothing: each contract is a law.
-ghost use Rattle.std.specs.Prelude.{◌≡◌, ℕ, Bool, true, List, Option, Err};
+ghost use Rattle.std.specs.Prelude.{◌≡◌, ℕ, Bool, true, List, ◌++◌, Option, Err};
 ghost use Rattle.std.specs.List.{All, Contains};
+ghost use Rattle.flume_party.specs.Interleavings.{Interleaving};
 ghost use Rattle.flume_error.specs.Messages.{send_timeout_message};
 ghost use Rattle.flume_core.specs.declared.error.SendTimeoutError.{SendTimeoutError};
 ghost use Rattle.flume_actions.specs.Actions.{Action, IsWhole};
 ghost use Rattle.flume_actions.specs.SendCalls.{IsSend, IsPolledSend};
 ghost use Rattle.flume_laws.specs.Together.{Interleaved, EachAreCalls, AreExchanged};
-ghost use Rattle.flume_laws.specs.Together.{AreRouted};
+ghost use Rattle.flume_laws.specs.Together.{AreRouted, AreExchangedInPhases, sum_over_all};
 
 use std::alloc::Allocator;
 
@@ -24,6 +25,29 @@ pub fn what_was_sent_is_what_was_got<T, A: Allocator>()
 /// sent, and all that was got.
 pub fn each_pair_keeps_its_order<T>()
     ensures law { (sents gots : List (List T)) → AreExchanged sents gots → AreRouted sents gots }
+{}
+
+/// If what some parties sent is what some parties got, in one line, then each sum is kept: whatever
+/// number each message counts for, the sum over all that was sent is the sum over all that was got.
+pub fn every_sum_is_kept<T>()
+    ensures law { (weight : T → ℕ) (sents gots : List (List T)) → AreExchanged sents gots
+        → sum_over_all weight sents ≡ sum_over_all weight gots }
+{}
+
+/// Suppose that some parties made their actions before others began with theirs, that each party
+/// made whole calls, that these are all actions that there were but for those of further parties,
+/// and that the channel was emptied. Then all that the first parties sent comes, in the one line of
+/// messages, before all that the second ones sent.
+pub fn what_was_sent_before_comes_before<T, A: Allocator>()
+    ensures law { (capacity : Option ℕ)
+        (parties parties' parties'' : List (List (Action T A)))
+        (early late others all : List (Action T A))
+        (sents sents' sents'' gots gots' gots'' : List (List T))
+        → Interleaved parties early → EachAreCalls parties sents gots
+        → Interleaved parties' late → EachAreCalls parties' sents' gots'
+        → Interleaved parties'' others → EachAreCalls parties'' sents'' gots''
+        → Interleaving (early ++ late) others all → IsWhole capacity all true
+        → AreExchangedInPhases sents sents' sents'' (gots'' ++ (gots' ++ gots)) }
 {}
 
 /// If the actions of a call that sends are among those that parties did, then the message that

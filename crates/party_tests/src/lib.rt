@@ -1,9 +1,14 @@
 //! Callers of `flume_party`: two threads make an action each on what a lock protects, and it is
-//! proved that nobody else made one. So a party goes to another thread and comes back.
+//! proved that nobody else made one. So a party goes to another thread and comes back. And
+//! near-misses of the laws of parties.
 #![tactic(auto)]
 
+mod near_misses;
 mod shared;
 #[cfg(test)]
 mod threads;
 
+pub use near_misses::{
+    near_misses_are_not_exchanged, near_misses_are_not_routed, the_law_needs_an_empty_channel,
+};
 pub use shared::{two_add, two_add_named};

@@ -1,0 +1,42 @@
+-- What is exchanged or routed between one sender and one receiver, and a run that leaves a message.
+use Rattle.std.proofs.Common.{rules, ◌≡◌, ℕ, false, List, [], ◌∷◌, Ok, None, refl, sym, subst, ◌∙◌}
+use Rattle.flume_calls.specs.declared.calls.send.SendNext.TheVariants.{Done}
+use Rattle.flume_party.specs.Interleavings.{Interleaving, End, Left, Right}
+use Rattle.flume_party.proofs.InterleavingLemmas.{interleaved_alone}
+use Rattle.flume_actions.specs.Actions.{IsWhole}
+use Rattle.flume_actions.specs.Calls.{AndCall, NoCalls, TriesToSend}
+use Rattle.flume_laws.specs.Together.{Interleaved, AreEmpty, EachMerged, NoList, AndLists}
+use Rattle.flume_laws.specs.Together.{EachAreCalls, AndParty, NoParty}
+use Rattle.flume_laws.proofs.TakeInLemmas.{one_in_order}
+use Rattle.party_tests.specs.NearMisses.{one_sent}
+
+-- an interleaving begins as one of its lists
+pub begins_so : {xs ys zs : List ℕ} → Interleaving xs ys zs → xs ≡ 1 ∷ 2 ∷ [] → ys ≡ 3 ∷ []
+    → zs ≡ 2 ∷ 3 ∷ 1 ∷ [] → ⊥
+begins_so End first second all = cc
+begins_so (Left rest) first second all = cc
+begins_so (Right rest) first second all = cc
+
+module _ {X : Type 0} where
+  pub routed_alone : {firsts others gots : List (List X)} {sent got : List X}
+      → EachMerged firsts others gots → gots ≡ got ∷ [] → Interleaved firsts sent
+      → AreEmpty others → got ≡ sent
+  routed_alone NoList is first none = absurd (cc is)
+  routed_alone {sent = sent} {got = got} (AndLists {xs = xs} {ys = ys} {zs = zs} merged NoList) is first
+      none =
+      let whole : got ≡ zs = cc in
+      whole ∙ (interleaved_alone xs zs (subst (λ list. Interleaving xs list zs) none.0 merged)
+      ∙ sym (one_in_order first))
+  routed_alone (AndLists merged (AndLists more rest)) is first none = absurd (cc is)
+
+-- it is the run of one call, which sent a message
+pub one_is_whole : IsWhole None one_sent false
+one_is_whole = record {
+  history = one_sent;
+  all = refl;
+  run = search rules;
+  left = λ is. absurd (cc is);
+}
+
+pub one_call : EachAreCalls (one_sent ∷ []) ((1 ∷ []) ∷ []) ([] ∷ [])
+one_call = AndParty (AndCall NoCalls (TriesToSend (Done (Ok tt)) (search rules))) NoParty
