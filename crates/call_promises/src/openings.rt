@@ -17,9 +17,9 @@ pub fn split<T, J: ChannelName>(me: &mut ChannelParty<T, J>) -> ChannelParty<T, 
     me.split_off(1)
 }
 
-/// Opens a channel of this name, offers one message, and settles. By the settling, the offer and its
-/// reply are all that sent or received in that channel, and the reply was the abstract channel's, of
-/// the capacity that the channel was opened with.
+/// Opens a channel of this name, offers one message, and settles. By the settling, the offer and
+/// its reply are all that sent or received in that channel, and the reply was the abstract
+/// channel's, of the capacity that the channel was opened with.
 pub fn offer_in_named<T: Drop, J: ChannelName, R: Waits, A: Allocator + Copy>(
     builder: Builder<R, A>,
     channel: UnopenedChannel,

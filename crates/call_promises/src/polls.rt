@@ -10,8 +10,8 @@ use futures::task::{Context, Poll};
 use std::alloc::Allocator;
 use std::collections::VecDeque;
 
-/// Polls a sink that sends these messages, in order, behind one that the sink keeps. What is left of
-/// the list, what the sink keeps, and the answer are what the polls of these sends came to.
+/// Polls a sink that sends these messages, in order, behind one that the sink keeps. What is left
+/// of the list, what the sink keeps, and the answer are what the polls of these sends came to.
 pub fn poll_all<T: Drop, R: Waits, A: Allocator + Copy>(
     sink: &mut SendSink<'_, T, R, A>,
     cx: &mut Context<'_>,

@@ -20,9 +20,9 @@ pub fn try_arms<V, L: AtLeastOneArm<V, A> + Drop, A: Allocator + Copy>(
     selector.try_wait()
 }
 
-/// Waits for the first of several arms up to the deadline. The parties of the arms come back. After a
-/// value, the clause says what they did if one of the arms completed with that value; after an error,
-/// what they did if none completed.
+/// Waits for the first of several arms up to the deadline. The parties of the arms come back. After
+/// a value, the clause says what they did if one of the arms completed with that value; after an
+/// error, what they did if none completed.
 pub fn select_in_time<V: Drop, L, A: Allocator + Copy>(
     selector: Selector<'_, V, L, A>,
     deadline: Instant,

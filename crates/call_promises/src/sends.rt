@@ -6,8 +6,8 @@ ghost use Rattle.flume_actions.specs.Callers.{HasMadeCalls};
 use flume::traced::{ChannelName, ChannelParty, TracedSender};
 use flume::{SendError, TrySendError, Waits};
 
-/// Offers a message, and doesn't wait. The party made one call in its own channel. The call sent the
-/// message if the result is `Ok`, and nothing otherwise.
+/// Offers a message, and doesn't wait. The party made one call in its own channel. The call sent
+/// the message if the result is `Ok`, and nothing otherwise.
 pub fn offer<T: Drop, J: ChannelName, R: Waits>(
     tx: &TracedSender<T, R, J>,
     me: &mut ChannelParty<T, J>,
@@ -18,8 +18,8 @@ pub fn offer<T: Drop, J: ChannelName, R: Waits>(
     tx.try_send(me, message)
 }
 
-/// Sends a message into one of two channels. The party of that channel made one call, which sent the
-/// message if the result is `Ok`. The party of the other channel made none.
+/// Sends a message into one of two channels. The party of that channel made one call, which sent
+/// the message if the result is `Ok`. The party of the other channel made none.
 pub fn send_into<T: Drop, J: ChannelName, K: ChannelName, R: Waits>(
     ends: (&TracedSender<T, R, J>, &TracedSender<T, R, K>),
     one: &mut ChannelParty<T, J>,
