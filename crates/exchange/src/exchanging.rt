@@ -1,7 +1,8 @@
 //! Two threads send through one channel, and two others receive.
-ghost use Rattle.std.specs.Prelude.{◌≡◌, ℕ, List, [], IfOk};
+ghost use Rattle.std.specs.Prelude.{◌≡◌, ℕ, List, [], ◌∷◌, IfOk};
 ghost use Rattle.flume_party.specs.Interleavings.{Interleaving};
 ghost use Rattle.flume_actions.specs.Callers.{HasMadeCalls};
+ghost use Rattle.flume_laws.specs.Together.{AreRouted};
 
 use crate::threads::{Received, receive_all, send_all};
 use flume::Runtime;
@@ -65,6 +66,8 @@ pub fn exchange_named<J: ChannelName + Send + Sync, R: Runtime>(
     requires parts { channel.parts ≡ 5 }
     ensures exchanged { IfOk result (λ r. (line : List ℕ)
         × Interleaving first.now second.now line × Interleaving r.0.items r.1.items line) }
+    ensures routed { IfOk result (λ r. AreRouted (first.now ∷ second.now ∷ [])
+        (r.0.items ∷ r.1.items ∷ [])) }
 {
     let (tx, rx, mut all) = flume::on(rt).traced::<u64, J>(channel)?;
     let senders = (all.split_off(1), all.split_off(1));
@@ -87,7 +90,8 @@ pub fn exchange_named<J: ChannelName + Send + Sync, R: Runtime>(
 }
 
 /// Two threads send a slice each through one channel, and two others receive. All is received,
-/// once, and in an order that keeps both slices' and both receivers'.
+/// once, and in an order that keeps both slices' and both receivers'. What each receiver got can be
+/// divided by the slice that it came from, in the order of that slice.
 pub fn exchange<R: Runtime>(
     rt: R,
     alloc: Global,
@@ -96,6 +100,8 @@ pub fn exchange<R: Runtime>(
 ) -> io::Result<(Vec<u64>, Vec<u64>)>
     ensures exchanged { IfOk result (λ r. (line : List ℕ)
         × Interleaving first.now second.now line × Interleaving r.0.items r.1.items line) }
+    ensures routed { IfOk result (λ r. AreRouted (first.now ∷ second.now ∷ [])
+        (r.0.items ∷ r.1.items ∷ [])) }
 {
     let channel = UnopenedChannel::bounded(4, 5);
     exchange_named::<Brand, R>(rt, alloc, channel, first, second)
