@@ -1,10 +1,13 @@
 -- What callers cite: an invariant of their own, before the first call and after one more.
-use Rattle.std.proofs.Common.{List, [], ◌++◌, refl}
+use Rattle.std.proofs.Common.{◌≡◌, ℕ, ◌+◌, List, [], ◌∷◌, ◌++◌, refl, arith}
+use Rattle.std.proofs.lemmas.List.Sums.{sum_by-append}
+use Rattle.std.specs.List.{sum_by}
 use Rattle.flume_party.specs.Parties.{PartyState}
 use Rattle.flume_actions.specs.Actions.{Action}
 use Rattle.flume_actions.specs.Calls.{HasCalled}
 use Rattle.flume_actions.proofs.CallerLemmas.{no_call, and_call}
 use Rattle.flume_laws.specs.Invariants.{HasMadeCallsWhere}
+use Rattle.flume_laws.specs.Together.{sum_over_all}
 
 module _ {T A : Type 0} where
   -- no call yet
@@ -24,3 +27,31 @@ module _ {T A : Type 0} where
     calls = and_call first.calls called refl refl;
     so = then_so first.sent first.got first.so;
   }
+
+  -- a call more, where a number changes by the sums of what is sent and got
+  pub and_call_summed : {old new new' : PartyState (Action T A)} (weight : T → ℕ)
+      (start before after : ℕ) {some more : List T}
+      → HasMadeCallsWhere old new
+      (λ sent got. before + sum_by weight sent ≡ start + sum_by weight got)
+      → HasCalled new new' some more
+      → after + sum_by weight some ≡ before + sum_by weight more
+      → HasMadeCallsWhere old new'
+      (λ sent got. after + sum_by weight sent ≡ start + sum_by weight got)
+  and_call_summed weight start before after {some = some} {more = more} first called change =
+      and_call_where first called (λ sent got is. omega (
+        arith,
+        is,
+        change,
+        sum_by-append weight sent some,
+        sum_by-append weight got more,
+      ))
+
+module _ {T : Type 0} where
+  -- if two numbers change so, and the sums are the same, then the total of both is kept
+  pub total_kept : (weight : T → ℕ) (first first' second second' : ℕ) (sent sent' got got' : List T)
+      → first' + sum_by weight sent ≡ first + sum_by weight got
+      → second' + sum_by weight sent' ≡ second + sum_by weight got'
+      → sum_over_all weight (sent' ∷ sent ∷ []) ≡ sum_over_all weight (got' ∷ got ∷ [])
+      → first' + second' ≡ first + second
+  total_kept weight first first' second second' sent sent' got got' one other sums =
+      omega (arith, one, other, sums)
