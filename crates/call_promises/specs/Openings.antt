@@ -1,5 +1,5 @@
 -- What became of the one message that was offered in a new channel.
-use Rattle.std.specs.Prelude.{ℕ, Bool, Option, Result, [], ◌∷◌}
+use Rattle.std.specs.Prelude.{ℕ, Option, Result, [], ◌∷◌}
 use Rattle.flume_model.specs.declared.step.Step.TheVariants.{TrySend}
 use Rattle.flume_model.specs.declared.step.Reply.{Reply}
 use Rattle.flume_core.specs.declared.error.TrySendError.{TrySendError}
@@ -13,5 +13,5 @@ pub record HasOffered {T : Type 0} (A : Type 0) (capacity : Option ℕ) (message
     (sent : Result (Unit {0}) (TrySendError T)) : Type 0 where
   pub reply : Reply T A
   pub answered : after_try_send reply (try_send_as_turn sent)
-  pub is_emptied : Bool
-  pub whole : IsWhole capacity ((TrySend message, reply) ∷ []) is_emptied
+  pub left : Option ℕ
+  pub whole : IsWhole capacity ((TrySend message, reply) ∷ []) left

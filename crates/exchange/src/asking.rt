@@ -212,9 +212,9 @@ where
     all.merge(server.me);
     all.merge(one.me);
     all.merge(other.me);
-    if !server.rx.settle(&mut all) {
+    let Some(0) = server.rx.settle(&mut all) else {
         return Err(io::Error::new(ErrorKind::Other, "questions are left"));
-    }
+    };
     Ok(((server.first, one.replies), (server.second, other.replies)))
 }
 
@@ -268,9 +268,9 @@ where
     let (writer, other) = other;
     right.merge(writer.me);
     right.merge(other.me);
-    if !one.rx.settle(&mut left) || !other.rx.settle(&mut right) {
+    let (Some(0), Some(0)) = (one.rx.settle(&mut left), other.rx.settle(&mut right)) else {
         return Err(io::Error::new(ErrorKind::Other, "replies are left"));
-    }
+    };
     Ok((one.items, other.items))
 }
 

@@ -83,9 +83,9 @@ pub fn exchange_named<J: ChannelName + Send + Sync, R: Runtime>(
     all.merge(b);
     all.merge(left.me);
     all.merge(right.me);
-    if !left.rx.settle(&mut all) {
+    let Some(0) = left.rx.settle(&mut all) else {
         return Err(io::Error::new(ErrorKind::Other, "messages are left"));
-    }
+    };
     Ok((left.items, right.items))
 }
 

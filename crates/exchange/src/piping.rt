@@ -64,9 +64,9 @@ where
     left.merge(halved.reader);
     right.merge(halved.writer);
     right.merge(collected.me);
-    if !halved.rx.settle(&mut left) || !collected.rx.settle(&mut right) {
+    let (Some(0), Some(0)) = (halved.rx.settle(&mut left), collected.rx.settle(&mut right)) else {
         return Err(io::Error::new(ErrorKind::Other, "messages are left"));
-    }
+    };
     Ok(collected.items)
 }
 

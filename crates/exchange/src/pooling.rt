@@ -117,9 +117,9 @@ where
     right.merge(first.writer);
     right.merge(second.writer);
     right.merge(collected.me);
-    if !first.rx.settle(&mut left) || !collected.rx.settle(&mut right) {
+    let (Some(0), Some(0)) = (first.rx.settle(&mut left), collected.rx.settle(&mut right)) else {
         return Err(io::Error::new(ErrorKind::Other, "messages are left"));
-    }
+    };
     Ok(collected.items)
 }
 

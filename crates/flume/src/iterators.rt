@@ -140,7 +140,7 @@ impl<'a, T: Drop, R: Waits, A: Allocator + Copy, J: ChannelName> Iter<
     /// let mut messages = rx.iter(me);
     /// assert_eq!(rt; messages.next(), Some(7));
     /// let mut me = messages.into_party();
-    /// assert!(rt; rx.settle(&mut me));
+    /// assert_eq!(rt; rx.settle(&mut me), Some(0));
     /// ```
     pub fn into_party(self) -> ChannelParty<T, J, A>
         ensures party { result ≡ self.entry.party }

@@ -140,6 +140,14 @@ impl<T: Drop, R: Waits, A: Allocator + Copy> Receiver<T, R, A> {
     {
         self.drain_as(&mut NoParty)
     }
+
+    /// As `Sender::set_capacity`.
+    pub fn set_capacity(&self, capacity: usize) -> Result<(), CapacityError>
+        ensures made { HasMade {T = T} {A = A} (Step.SetCapacity capacity)
+            after_set_capacity result }
+    {
+        self.shared.set_capacity(&mut NoParty, capacity)
+    }
 }
 
 impl<T: Drop, R: Waits, A: Allocator + Copy, K: Keeper<T, A>> Receiver<T, R, A, K> {
@@ -180,14 +188,6 @@ impl<T: Drop, R: Waits, A: Allocator + Copy, K: Keeper<T, A>> Receiver<T, R, A, 
         ensures made { HasReplied {T = T} {A = A} Step.Capacity (Reply.Capacity result) }
     {
         self.shared.capacity()
-    }
-
-    /// As `Sender::set_capacity`.
-    pub fn set_capacity(&self, capacity: usize) -> Result<(), CapacityError>
-        ensures made { HasMade {T = T} {A = A} (Step.SetCapacity capacity)
-            after_set_capacity result }
-    {
-        self.shared.set_capacity(capacity)
     }
 
     /// How many senders live.

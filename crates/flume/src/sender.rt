@@ -107,6 +107,22 @@ impl<T: Drop, R: Waits, A: Allocator + Copy> Sender<T, R, A> {
         let deadline = Deadline::after(&self.shared.rt, timeout);
         self.send_until(&mut NoParty, message, deadline)
     }
+
+    /// Sets the capacity; an error changes nothing. A greater one lets blocked sends in as far as
+    /// there is room; a smaller one drops nothing. Wakes no receiver. Doesn't allocate.
+    /// ```
+    /// let (tx, _rx) = flume::on(rt).bounded(1)?;
+    /// assert_eq!(rt; tx.try_send(1), Ok(()));
+    /// assert_eq!(rt; tx.set_capacity(2), Ok(()));
+    /// assert_eq!(rt; tx.try_send(2), Ok(()));
+    /// assert_eq!(rt; tx.capacity(), Some(2));
+    /// ```
+    pub fn set_capacity(&self, capacity: usize) -> Result<(), CapacityError>
+        ensures made { HasMade {T = T} {A = A} (Step.SetCapacity capacity)
+            after_set_capacity result }
+    {
+        self.shared.set_capacity(&mut NoParty, capacity)
+    }
 }
 
 impl<T: Drop, R: Waits, A: Allocator + Copy, K: Keeper<T, A>> Sender<T, R, A, K> {
@@ -147,22 +163,6 @@ impl<T: Drop, R: Waits, A: Allocator + Copy, K: Keeper<T, A>> Sender<T, R, A, K>
         ensures made { HasReplied {T = T} {A = A} Step.Capacity (Reply.Capacity result) }
     {
         self.shared.capacity()
-    }
-
-    /// Sets the capacity; an error changes nothing. A greater one lets blocked sends in as far as
-    /// there is room; a smaller one drops nothing. Wakes no receiver. Doesn't allocate.
-    /// ```
-    /// let (tx, _rx) = flume::on(rt).bounded(1)?;
-    /// assert_eq!(rt; tx.try_send(1), Ok(()));
-    /// assert_eq!(rt; tx.set_capacity(2), Ok(()));
-    /// assert_eq!(rt; tx.try_send(2), Ok(()));
-    /// assert_eq!(rt; tx.capacity(), Some(2));
-    /// ```
-    pub fn set_capacity(&self, capacity: usize) -> Result<(), CapacityError>
-        ensures made { HasMade {T = T} {A = A} (Step.SetCapacity capacity)
-            after_set_capacity result }
-    {
-        self.shared.set_capacity(capacity)
     }
 
     /// How many senders live.

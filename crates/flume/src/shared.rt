@@ -9,6 +9,7 @@ ghost use Rattle.flume_calls.specs.Polls.{AtMostOneStep};
 ghost use Rattle.flume_calls.specs.Singles.{after_set_capacity};
 ghost use Rattle.flume.specs.LockedPolls.{HasPolled};
 ghost use Rattle.flume.specs.LockedTurns.{HasDone, HasMade};
+ghost use Rattle.flume.specs.PartySteps.{DidStep};
 ghost use Rattle.flume_actions.specs.Actions.{IsPart, IsWhole};
 ghost use Rattle.flume_keeper.specs.Keeps.{Did, LogsOf};
 
@@ -96,14 +97,20 @@ impl<T: Drop, R: Waits, A: Allocator + Copy, K: Keeper<T, A>> Shared<T, R, A, K>
     }
 
     #[inline(never)]
-    pub(crate) fn set_capacity(&self, capacity: usize) -> Result<(), CapacityError>
+    pub(crate) fn set_capacity(
+        &self,
+        me: &mut K::Party,
+        capacity: usize,
+    ) -> Result<(), CapacityError>
         ensures made { HasMade {T = T} {A = A} (step.SetCapacity capacity)
             after_set_capacity result }
+        ensures did { DidStep K.did (step.SetCapacity capacity) after_set_capacity me.old result
+            me.new }
     {
         // Under one lock, so that of two calls at once one's capacity stays in both places.
         let mut guard = self.lock();
         let bell = &mut SignalBell { rt: self.rt };
-        let answer = guard.make_unowned(SetCapacity { capacity }, bell);
+        let answer = guard.make(me, SetCapacity { capacity }, bell);
         if answer.is_ok() {
             self.capacity_hint.store(capacity as u64, Ordering::SeqCst);
         }
@@ -258,7 +265,7 @@ impl<T: Drop, R: Waits, A: Allocator + Copy, J: ChannelName> Shared<T, R, A, Tra
         self.lock().confirm(me);
     }
 
-    pub(crate) fn settle(&self, me: &mut ChannelParty<T, J, A>) -> bool
+    pub(crate) fn settle(&self, me: &mut ChannelParty<T, J, A>) -> Option<usize>
         requires whole { me.old.parts ≡ J.identity.parts }
         ensures party { me.new ≡ me.old }
         ensures whole { IsWhole J.identity.capacity me.old.actions result }

@@ -2,8 +2,8 @@
 //!
 //! Each call takes a *party*, `me`, which knows its own actions and has no bytes. A program splits
 //! off a party for each thread, and merges them again. Who has all parts knows by `settle` that its
-//! actions are all that sent or received there. If it answers true, `what_was_sent_is_what_was_got`
-//! of `flume_laws` says: what its threads sent is what they received.
+//! actions are all that sent or received there. If no message is left, then
+//! `what_was_sent_is_what_was_got` of `flume_laws` says: what its threads sent is what they received.
 //! ```
 //! let channel = UnopenedChannel::bounded(4, 2);
 //! let (tx, rx, mut me) = flume::on(rt).traced::<u64, Brand>(channel)?;
@@ -11,15 +11,17 @@
 //! tx.send(&mut me, 7)?;
 //! assert_eq!(rt; rx.recv(&mut other), Ok(7));
 //! me.merge(other);
-//! assert!(rt; rx.settle(&mut me));
+//! assert_eq!(rt; rx.settle(&mut me), Some(0));
 //! ```
 //! What a call does is one function, of these ends and of the others. Iterators, futures, sinks,
 //! streams and the arms of a `Selector` own their party, and give it back. Clones, drops and queries
 //! take no party.
 ghost use Rattle.std.specs.Prelude.{◌≡◌, ◌≢◌, ◌<◌, [], IfOk, Err};
 ghost use Rattle.flume_model.specs.declared.step.Step.TheVariants.{TrySend, TryRecv, Drain};
+ghost use Rattle.flume_model.specs.declared.step.Step.TheVariants.{SetCapacity};
 ghost use Rattle.flume_calls.specs.ReceiveTurns.{after_try_recv};
 ghost use Rattle.flume_calls.specs.SendTurns.{after_try_send};
+ghost use Rattle.flume_calls.specs.Singles.{after_set_capacity};
 ghost use Rattle.flume_deadline.specs.declared.Deadline.{Deadline};
 ghost use Rattle.flume_deadline.specs.Deadlines.{IsAfter};
 ghost use Rattle.flume_party.specs.Parties.{party_of};
@@ -41,7 +43,8 @@ use crate::sender::Sender;
 use crate::shared::Waits;
 use crate::weak::WeakSender;
 use flume_core::error::{
-    NoMemory, RecvError, RecvTimeoutError, SendError, SendTimeoutError, TryRecvError, TrySendError,
+    CapacityError, NoMemory, RecvError, RecvTimeoutError, SendError, SendTimeoutError, TryRecvError,
+    TrySendError,
 };
 use flume_deadline::Deadline;
 pub use flume_keeper::{ChannelName, ChannelParty, Traced, UnopenedChannel};
@@ -147,6 +150,17 @@ impl<T: Drop, R: Waits, A: Allocator + Copy, J: ChannelName> Sender<T, R, A, Tra
         self.send_until(me, message, deadline)
     }
 
+    /// As of a sender without a trace. One step: the capacity was set, or the call was refused.
+    pub fn set_capacity(
+        &self,
+        me: &mut ChannelParty<T, J, A>,
+        capacity: usize,
+    ) -> Result<(), CapacityError>
+        ensures made { HasStepped (SetCapacity capacity) after_set_capacity me.old result me.new }
+    {
+        self.shared().set_capacity(me, capacity)
+    }
+
     /// As `TracedReceiver::confirm`.
     pub fn confirm(&self, me: &mut ChannelParty<T, J, A>)
         ensures party { me.new ≡ me.old }
@@ -211,6 +225,17 @@ impl<T: Drop, R: Waits, A: Allocator + Copy, J: ChannelName> Receiver<T, R, A, T
         self.drain_as(me)
     }
 
+    /// As of a receiver without a trace. One step: the capacity was set, or the call was refused.
+    pub fn set_capacity(
+        &self,
+        me: &mut ChannelParty<T, J, A>,
+        capacity: usize,
+    ) -> Result<(), CapacityError>
+        ensures made { HasStepped (SetCapacity capacity) after_set_capacity me.old result me.new }
+    {
+        self.shared().set_capacity(me, capacity)
+    }
+
     /// For any party, at any time. It changes nothing. Its clause says that the actions of `me`
     /// stand, in their order, in all that was done to this channel, and that each reply in that was
     /// the abstract channel's. It doesn't say that two such calls speak of the same history.
@@ -221,10 +246,11 @@ impl<T: Drop, R: Waits, A: Allocator + Copy, J: ChannelName> Receiver<T, R, A, T
         self.shared().confirm(me);
     }
 
-    /// For whoever has all parts. It changes nothing, and answers whether no message is queued or
-    /// blocked, and an end lives. Its clause says that the actions of `me` are all that sent or
-    /// received on this channel since it was opened, and that each reply was the abstract channel's.
-    pub fn settle(&self, me: &mut ChannelParty<T, J, A>) -> bool
+    /// For whoever has all parts. It changes nothing, and answers how many messages are queued or
+    /// blocked; `None` if no end lives. Its clause says that the actions of `me` are all that sent or
+    /// received on this channel, or set its capacity, since it was opened, and that each reply was
+    /// the abstract channel's.
+    pub fn settle(&self, me: &mut ChannelParty<T, J, A>) -> Option<usize>
         requires whole { me.old.parts ≡ J.identity.parts }
         ensures party { me.new ≡ me.old }
         ensures whole { IsWhole J.identity.capacity me.old.actions result }

@@ -1,8 +1,9 @@
 -- What is done to a channel, as its history has it.
-use Rattle.std.specs.Prelude.{◌≡◌, ℕ, Bool, true, false, List, [], Option, filter, reverse}
+use Rattle.std.specs.Prelude.{◌≡◌, ℕ, Bool, true, false, List, length, Option, Some, filter, reverse}
 use Rattle.flume_model.specs.declared.step.Step.{Step}
 use Rattle.flume_model.specs.declared.step.Step.TheVariants.{TrySend, Send, PollSend, WithdrawSend}
 use Rattle.flume_model.specs.declared.step.Step.TheVariants.{TryRecv, Recv, Poll, Withdraw, Drain}
+use Rattle.flume_model.specs.declared.step.Step.TheVariants.{SetCapacity}
 use Rattle.flume_model.specs.declared.step.Reply.{Reply}
 use Rattle.flume_model.specs.Log.{opens}
 use Rattle.flume_model.specs.Counts.{is_over}
@@ -15,7 +16,8 @@ abbrev pub Action : Type 0 → Type 0 → Type 0
 Action T A = Step T × Reply T A
 
 module _ {T : Type 0} where
-  -- whether a step sends or receives; the others, such as a clone or a query, move no message
+  -- whether a step sends, receives, or sets the capacity, which lets blocked messages in; the others,
+  -- such as a clone or a query, move no message
   abbrev pub moves_message : Step T → Bool
   moves_message (TrySend message) = true
   moves_message (Send message) = true
@@ -26,6 +28,7 @@ module _ {T : Type 0} where
   moves_message (Poll ticket) = true
   moves_message (Withdraw ticket) = true
   moves_message Drain = true
+  moves_message (SetCapacity capacity) = true
   moves_message _ = false
 
 module _ {T A : Type 0} where
@@ -34,16 +37,18 @@ module _ {T A : Type 0} where
   is_of_party action = moves_message action.0
 
   -- These actions of parties are all there were. A channel was opened with the capacity, and the
-  -- history is all that was done to it, the oldest first.
-  pub record IsWhole (capacity : Option ℕ) (actions : List (Action T A)) (is_emptied : Bool)
+  -- history is all that was done to it, the oldest first. So many messages are left in it, if an end
+  -- lives.
+  pub record IsWhole (capacity : Option ℕ) (actions : List (Action T A)) (left : Option ℕ)
       : Type 0 where
     pub history : List (Action T A)
     -- the actions are those of the history that move messages
     pub all : actions ≡ filter is_of_party history
     -- each reply was the abstract channel's
     pub run : IsRun (opens capacity 1) (reverse history)
-    -- if it is emptied, no message is queued or blocked, and none was dropped with both sides
-    pub left : is_emptied ≡ true → (line (reverse history) ≡ []) × (is_over (reverse history) ≡ false)
+    -- so many are queued or blocked, and none was dropped with both sides
+    pub counted : (n : ℕ) → left ≡ Some n
+        → (length (line (reverse history)) ≡ n) × (is_over (reverse history) ≡ false)
 
   -- These actions of a party stand, in their order, in all that was done to a channel, the oldest
   -- first. It was opened with the capacity.

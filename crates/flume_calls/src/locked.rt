@@ -9,7 +9,7 @@ ghost use Rattle.flume_state.specs.State.{State, new_state};
 ghost use Rattle.flume_state.specs.Signals.{signal_of};
 ghost use Rattle.flume_core.specs.Represents.{IsReachable, Represents};
 ghost use Rattle.flume_core.specs.StateFacts.{ChannelFacts, NobodyIsStuck};
-ghost use Rattle.flume_calls.specs.AtRest.{IsAtRest, IsCallAtRest, IsEmptied};
+ghost use Rattle.flume_calls.specs.AtRest.{IsAtRest, IsCallAtRest, messages_left};
 ghost use Rattle.flume_calls.specs.EachIsRung.{EachIsRung};
 ghost use Rattle.flume_calls.specs.Polls.{IsPollCall, AtMostOneStep};
 ghost use Rattle.flume_calls.specs.NoCallWaits.{NoCallWaits};
@@ -144,20 +144,20 @@ impl<T: Drop, S: Drop, A: Allocator + Copy> Locked<T, S, A> {
         self.chan.waiting_len()
     }
 
-    /// Whether no message is queued or blocked, and an end lives. No step.
-    pub fn is_emptied(&self) -> bool
-        ensures emptied { IsTrue result ↔ IsEmptied self.now }
+    /// How many messages are queued or blocked; `None` if no end lives. No step.
+    pub fn messages_left(&self) -> Option<usize>
+        ensures left { result ≡ messages_left self.now }
     {
-        if self.chan.available(1) > 0 {
-            return false;
-        }
         let Reply::Number(senders) = self.chan.sender_count() else {
             unreachable!();
         };
         let Reply::Number(receivers) = self.chan.receiver_count() else {
             unreachable!();
         };
-        senders > 0 || receivers > 0
+        if senders == 0 && receivers == 0 {
+            return None;
+        }
+        Some(self.chan.available(usize::MAX))
     }
 
     /// The signal that the parked call left last. No step.

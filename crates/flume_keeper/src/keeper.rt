@@ -68,7 +68,7 @@ pub trait Keeper<T, A: Allocator>: Drop {
         ensures fits { fits self.new (LogsOf made.now.after.value) }
         ensures did { Did did (M.makes made.now.by) party.old made.now.answer.value party.new };
 
-    /// Keeps a turn of nobody: a clone, a drop, a query, a new capacity.
+    /// Keeps a turn of nobody: a clone, a drop, a query.
     fn keep_unowned<S, M: Maker<T, S, A>>(&mut self, made: &Made<M, M::Answer, Locked<T, S, A>>)
         requires made { HasMade (M.makes made.now.by) made.now.before.value made.now.after.value
             made.now.answer.value }

@@ -16,15 +16,15 @@ impl<T: Drop, S: Drop, A: Allocator + Copy, J: ChannelName> Kept<T, S, A, Traced
         party.audit(&mut self.keeper.trace);
     }
 
-    /// Changes nothing. Whether no message is queued or blocked, and an end lives. Its clause says
-    /// that the party, which has all parts, made all steps that moved a message.
-    pub fn settle(&mut self, party: &mut ChannelParty<T, J, A>) -> bool
+    /// Changes nothing. How many messages are queued or blocked; `None` if no end lives. Its clause
+    /// says that the party, which has all parts, made all steps that moved a message.
+    pub fn settle(&mut self, party: &mut ChannelParty<T, J, A>) -> Option<usize>
         requires whole { party.old.parts ≡ J.identity.parts }
         ensures party { party.new ≡ party.old }
         ensures channel { self.new ≡ self.old }
         ensures whole { IsWhole J.identity.capacity party.old.actions result }
     {
         party.audit(&mut self.keeper.trace);
-        self.locked.is_emptied()
+        self.locked.messages_left()
     }
 }

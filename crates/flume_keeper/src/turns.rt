@@ -10,7 +10,7 @@ use flume_calls::single::{CapacityQuery, CountQuery, DrainQueue, EndStep, FlagQu
 use flume_calls::turn::Turn;
 use std::alloc::Allocator;
 
-/// A turn whose steps send or receive. It is a party's.
+/// A turn whose steps send, receive or set the capacity. It is a party's.
 pub trait MessageTurn<T, S, A: Allocator>: Turn<T, S, A> {
     ghost moves: { (turn : Self) → MovesMessages (Self.Turn.makes turn) };
 }
@@ -66,6 +66,13 @@ impl<T: Drop, S: Drop, A: Allocator + Copy> MessageTurn<T, S, A> for AgainReceiv
 }
 
 impl<T: Drop, S: Drop, A: Allocator + Copy> MessageTurn<T, S, A> for DrainQueue {
+    ghost use Rattle.std.specs.Prelude.{true};
+    ghost use Rattle.flume_keeper.specs.Moves.{step_moves};
+
+    ghost moves = { λ turn. step_moves (λ i. true) };
+}
+
+impl<T: Drop, S: Drop, A: Allocator + Copy> MessageTurn<T, S, A> for SetCapacity {
     ghost use Rattle.std.specs.Prelude.{true};
     ghost use Rattle.flume_keeper.specs.Moves.{step_moves};
 
@@ -133,13 +140,6 @@ impl<T: Drop, S: Drop, A: Allocator + Copy> EndTurn<T, S, A> for FlagQuery {
 }
 
 impl<T: Drop, S: Drop, A: Allocator + Copy> EndTurn<T, S, A> for CapacityQuery {
-    ghost use Rattle.std.specs.Prelude.{false};
-    ghost use Rattle.flume_keeper.specs.Moves.{step_moves_none};
-
-    ghost moves = { λ turn. step_moves_none (λ i. false) };
-}
-
-impl<T: Drop, S: Drop, A: Allocator + Copy> EndTurn<T, S, A> for SetCapacity {
     ghost use Rattle.std.specs.Prelude.{false};
     ghost use Rattle.flume_keeper.specs.Moves.{step_moves_none};
 

@@ -145,9 +145,9 @@ module _ {T A : Type 0} where
         → Contains some (blocked_offer back t) → back ≡ m
     pub known : All (IsKnown some) made
 
-  pub run_of : (capacity : Option ℕ) (is_emptied : Bool) (all made : List (Action T A))
-      → IsWhole capacity all is_emptied → All (Contains all) made → Run made
-  run_of capacity is_emptied all made whole there =
+  pub run_of : (capacity : Option ℕ) (left : Option ℕ) (all made : List (Action T A))
+      → IsWhole capacity all left → All (Contains all) made → Run made
+  run_of capacity left all made whole there =
       let o = opens capacity 1 in
       let log : Log T A = reverse whole.history in
       let P : Action T A → Type 0 = IsKnown (offers log) in

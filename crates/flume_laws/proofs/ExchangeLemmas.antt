@@ -1,5 +1,5 @@
 -- What whole calls sent is what they got.
-use Rattle.std.proofs.Common.{true, List, Option, ℕ, refl, subst}
+use Rattle.std.proofs.Common.{List, Option, Some, ℕ, refl, subst}
 use Rattle.std.specs.Prelude.{reverse}
 use Rattle.flume_model.specs.Log.{opens}
 use Rattle.flume_model.specs.Offers.{kept}
@@ -13,13 +13,13 @@ use Rattle.flume_laws.proofs.GotInOrderLemmas.{got_all}
 
 pub exchange : {T A : Type 0} {capacity : Option ℕ} {parties : List (List (Action T A))}
     {all : List (Action T A)} {sents gots : List (List T)} → Interleaved parties all
-    → EachAreCalls parties sents gots → IsWhole capacity all true → AreExchanged sents gots
+    → EachAreCalls parties sents gots → IsWhole capacity all (Some 0) → AreExchanged sents gots
 exchange {capacity = capacity} {parties = parties} {sents = sents} {gots = gots} merged calls
     whole =
     let o = opens capacity 1 in
     let log = reverse whole.history in
     let line = messages (kept log) in
-    let left = whole.left refl in
+    let left = whole.counted 0 refl in
     let some = all_parties whole.history parties sents gots
     (subst (Interleaved parties) whole.all merged) calls in (
       line,

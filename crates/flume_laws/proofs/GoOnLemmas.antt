@@ -1,5 +1,5 @@
 -- What callers cite: a party that goes on after it took in others, so that they sent before it.
-use Rattle.std.proofs.Common.{◌≡◌, ℕ, ◌+◌, true, List, [], ◌∷◌, ◌++◌, Option, refl, ap, sym, subst, ◌∙◌}
+use Rattle.std.proofs.Common.{◌≡◌, ℕ, ◌+◌, List, [], ◌∷◌, ◌++◌, Option, Some, refl, ap, sym, subst, ◌∙◌}
 use Rattle.flume_party.specs.Interleavings.{Interleaving}
 use Rattle.flume_party.specs.Parties.{PartyState, party_of, Merged}
 use Rattle.flume_party.proofs.InterleavingLemmas.{interleaved_alone, interleaved_swap}
@@ -160,7 +160,7 @@ module _ {T A : Type 0} where
   -- if its actions are all there were, and the channel was emptied, what was sent early comes first
   pub exchanged_in_phases : {party : PartyState (Action T A)}
       {early late others gots : List (List T)} {capacity : Option ℕ}
-      → HasGoneOn party early late others gots → IsWhole capacity party.actions true
+      → HasGoneOn party early late others gots → IsWhole capacity party.actions (Some 0)
       → AreExchangedInPhases early late others gots
   exchanged_in_phases all whole =
       let both = in_phases _ _ all.took.merged all.took.calls all.went.merged all.went.calls

@@ -2,7 +2,7 @@
 use Rattle.std.proofs.Common.{◌≡◌, ℕ, zero, suc, Bool, false, List, [], ◌∷◌, ◌++◌, length, take}
 use Rattle.std.proofs.Common.{drop, map}
 use Rattle.std.proofs.Common.{Option, Some, None, refl, ap, sym, subst, ◌∙◌, arith}
-use Rattle.std.proofs.lemmas.List.{append-nil, append_assoc, take-append-drop}
+use Rattle.std.proofs.lemmas.List.{append-nil, append_assoc, nil_from_length, take-append-drop}
 use Rattle.std.proofs.lemmas.Grind.{common_steps, flat_map-append}
 use Rattle.std.specs.Prelude.{reverse}
 use Rattle.std.specs.List.{flat_map, slice_get}
@@ -126,10 +126,10 @@ module _ {T A : Type 0} where
   -- if nothing is left, it is all that is kept of the offers
   pub got_all : (opening : Opening) (history : List (Action T A)) (sents gots : List (List T))
       → IsRun opening (reverse history)
-      → (line (reverse history) ≡ []) × (is_over (reverse history) ≡ false)
+      → (length (line (reverse history)) ≡ 0) × (is_over (reverse history) ≡ false)
       → Parties history sents gots → Interleaved gots (messages (kept (reverse history)))
   got_all o history sents gots run left parties =
       let log : Log T A = reverse history in
-      let none = sym (line_is_open log left.1) ∙ left.0 in
+      let none = sym (line_is_open log left.1) ∙ nil_from_length (line log) left.0 in
       subst (λ list. Interleaved gots (messages list)) (taken_all (hand_outs log) (kept log) none)
       (got_in_order o history sents gots run left.1 parties)

@@ -1,5 +1,5 @@
 -- What some parties sent before others sent comes before what those sent.
-use Rattle.std.proofs.Common.{◌≡◌, ℕ, ◌≤◌, Bool, true, false, not, List, [], ◌∷◌, ◌++◌, Option}
+use Rattle.std.proofs.Common.{◌≡◌, ℕ, ◌≤◌, Bool, true, false, not, List, [], ◌∷◌, ◌++◌, Option, Some}
 use Rattle.std.proofs.Common.{refl, ap, sym, subst, ◌∙◌, arith}
 use Rattle.std.proofs.lemmas.Grind.{flat_map-append}
 use Rattle.std.proofs.lemmas.List.{reverse-reverse}
@@ -65,7 +65,7 @@ module _ {T A : Type 0} where
       → Interleaved parties early → EachAreCalls parties sents gots
       → Interleaved parties' late → EachAreCalls parties' sents' gots'
       → Interleaved parties'' others → EachAreCalls parties'' sents'' gots''
-      → Interleaving (early ++ late) others all → IsWhole capacity all true
+      → Interleaving (early ++ late) others all → IsWhole capacity all (Some 0)
       → AreExchangedInPhases sents sents' sents'' (gots'' ++ (gots' ++ gots))
   in_phases {capacity = capacity} {parties = parties} {parties' = parties'} {parties'' = parties''}
       {others = others} {all = all} early late {sents = sents} {sents' = sents'}
@@ -128,5 +128,5 @@ module _ {T A : Type 0} where
             (λ i. (flat_map-append f early late i, line i))
             (flat_merged f (early ++ late) others all both),
         leave_out (gots'' ++ (gots' ++ gots)) (messages (kept log))
-            (got_all o history _ _ whole.run (whole.left refl) s),
+            (got_all o history _ _ whole.run (whole.counted 0 refl) s),
       )

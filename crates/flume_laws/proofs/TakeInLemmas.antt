@@ -1,5 +1,5 @@
 -- What callers cite: parties that become one again, and what they sent and got.
-use Rattle.std.proofs.Common.{◌≡◌, ℕ, true, List, [], ◌∷◌, ◌++◌, Option, refl, ap, sym, subst, ◌∙◌}
+use Rattle.std.proofs.Common.{◌≡◌, ℕ, List, [], ◌∷◌, ◌++◌, Option, Some, refl, ap, sym, subst, ◌∙◌}
 use Rattle.flume_party.specs.Interleavings.{Interleaving}
 use Rattle.flume_party.specs.Parties.{PartyState, party_of, Merged}
 use Rattle.flume_party.proofs.InterleavingLemmas.{interleaved_alone, interleaved_swap}
@@ -129,7 +129,7 @@ module _ {T A : Type 0} where
 
   -- if its actions are all there were, and the channel was emptied, what was sent is what was got
   pub exchanged : {party : PartyState (Action T A)} {sents gots : List (List T)}
-      {capacity : Option ℕ} → HasTakenIn party sents gots → IsWhole capacity party.actions true
+      {capacity : Option ℕ} → HasTakenIn party sents gots → IsWhole capacity party.actions (Some 0)
       → AreExchanged sents gots
   exchanged all whole =
       let both = exchange all.merged all.calls whole in
@@ -137,7 +137,7 @@ module _ {T A : Type 0} where
 
   -- so each sum over what was sent is the sum over what was got
   pub sums_kept : {party : PartyState (Action T A)} {sents gots : List (List T)}
-      {capacity : Option ℕ} → HasTakenIn party sents gots → IsWhole capacity party.actions true
+      {capacity : Option ℕ} → HasTakenIn party sents gots → IsWhole capacity party.actions (Some 0)
       → (weight : T → ℕ) → sum_over_all weight sents ≡ sum_over_all weight gots
   sums_kept all whole weight = same_sum weight _ _ (exchanged all whole)
 

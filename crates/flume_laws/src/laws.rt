@@ -1,5 +1,5 @@
 //! Laws of what parties did. These functions do nothing: each contract is a law.
-ghost use Rattle.std.specs.Prelude.{◌≡◌, ℕ, Bool, true, List, ◌++◌, Option, Err};
+ghost use Rattle.std.specs.Prelude.{◌≡◌, ℕ, List, ◌++◌, Option, Some, Err};
 ghost use Rattle.std.specs.List.{All, Contains};
 ghost use Rattle.flume_party.specs.Interleavings.{Interleaving};
 ghost use Rattle.flume_error.specs.Messages.{send_timeout_message};
@@ -17,7 +17,7 @@ use std::alloc::Allocator;
 pub fn what_was_sent_is_what_was_got<T, A: Allocator>()
     ensures law { (capacity : Option ℕ) (parties : List (List (Action T A))) (all : List (Action T A))
         (sents gots : List (List T)) → Interleaved parties all → EachAreCalls parties sents gots
-        → IsWhole capacity all true → AreExchanged sents gots }
+        → IsWhole capacity all (Some 0) → AreExchanged sents gots }
 {}
 
 /// If what some parties sent is what some parties got, in one line, then what one receiver got of one
@@ -46,19 +46,19 @@ pub fn what_was_sent_before_comes_before<T, A: Allocator>()
         → Interleaved parties early → EachAreCalls parties sents gots
         → Interleaved parties' late → EachAreCalls parties' sents' gots'
         → Interleaved parties'' others → EachAreCalls parties'' sents'' gots''
-        → Interleaving (early ++ late) others all → IsWhole capacity all true
+        → Interleaving (early ++ late) others all → IsWhole capacity all (Some 0)
         → AreExchangedInPhases sents sents' sents'' (gots'' ++ (gots' ++ gots)) }
 {}
 
 /// If the actions of a call that sends are among those that parties did, then the message that
 /// comes back with its error is the one that it offered, also after a wait.
 pub fn what_comes_back_is_what_was_offered<T, A: Allocator>()
-    ensures send { (capacity : Option ℕ) (is_emptied : Bool) (all made : List (Action T A))
-        (message : T) (error : SendTimeoutError T) → IsWhole capacity all is_emptied
+    ensures send { (capacity : Option ℕ) (left : Option ℕ) (all made : List (Action T A))
+        (message : T) (error : SendTimeoutError T) → IsWhole capacity all left
         → All (Contains all) made → IsSend message made (Err error)
         → send_timeout_message error ≡ message }
-    ensures polled_send { (capacity : Option ℕ) (is_emptied : Bool) (all made : List (Action T A))
-        (message : T) (error : SendTimeoutError T) → IsWhole capacity all is_emptied
+    ensures polled_send { (capacity : Option ℕ) (left : Option ℕ) (all made : List (Action T A))
+        (message : T) (error : SendTimeoutError T) → IsWhole capacity all left
         → All (Contains all) made → IsPolledSend message made (Err error)
         → send_timeout_message error ≡ message }
 {}

@@ -1,5 +1,5 @@
 -- What is exchanged or routed between one sender and one receiver, and a run that leaves a message.
-use Rattle.std.proofs.Common.{rules, ◌≡◌, ℕ, false, List, [], ◌∷◌, Ok, None, refl, sym, subst, ◌∙◌}
+use Rattle.std.proofs.Common.{rules, ◌≡◌, ℕ, List, [], ◌∷◌, Ok, Some, None, refl, sym, subst, ◌∙◌}
 use Rattle.flume_calls.specs.declared.calls.send.SendNext.TheVariants.{Done}
 use Rattle.flume_party.specs.Interleavings.{Interleaving, End, Left, Right}
 use Rattle.flume_party.proofs.InterleavingLemmas.{interleaved_alone}
@@ -30,12 +30,12 @@ module _ {X : Type 0} where
   routed_alone (AndLists merged (AndLists more rest)) is first none = absurd (cc is)
 
 -- it is the run of one call, which sent a message
-pub one_is_whole : IsWhole None one_sent false
+pub one_is_whole : IsWhole None one_sent (Some 1)
 one_is_whole = record {
   history = one_sent;
   all = refl;
   run = search rules;
-  left = λ is. absurd (cc is);
+  counted = λ n is. (cc is, refl);
 }
 
 pub one_call : EachAreCalls (one_sent ∷ []) ((1 ∷ []) ∷ []) ([] ∷ [])

@@ -1,6 +1,6 @@
 //! Near-misses of the laws of parties: lists that no channel exchanges, and what a law needs. The
 //! functions do nothing.
-ghost use Rattle.std.specs.Prelude.{ℕ, [], ◌∷◌, false, None};
+ghost use Rattle.std.specs.Prelude.{ℕ, [], ◌∷◌, Some, None};
 ghost use Rattle.flume_actions.specs.Actions.{IsWhole};
 ghost use Rattle.flume_laws.specs.Together.{AreExchanged, AreRouted};
 ghost use Rattle.party_tests.specs.NearMisses.{one_sent, LawWhen};
@@ -26,6 +26,6 @@ pub fn near_misses_are_not_routed()
 /// What was sent is what was got only if the channel was emptied: in a run, one message was sent, and
 /// nobody received it.
 pub fn the_law_needs_an_empty_channel()
-    ensures one_sent { IsWhole None one_sent false }
-    ensures needed { ¬ LawWhen false }
+    ensures one_sent { IsWhole None one_sent (Some 1) }
+    ensures needed { ¬ LawWhen (Some 1) }
 {}

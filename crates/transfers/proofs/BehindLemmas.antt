@@ -14,7 +14,7 @@ pub third_behind : {A : Type 0} {start one other sender receiver received all : 
     → HasTakenIn start [] [] → one ≡ party_of parts [] → other ≡ party_of more []
     → HasSentInPhases start sender (one, other) first second third → receiver ≡ party_of rest []
     → HasMadeCalls receiver received [] items → Merged sender received all
-    → IsWhole capacity all.actions true
+    → IsWhole capacity all.actions (Some 0)
     → (early : List ℕ) × Interleaving first second early × (items ≡ early ++ third)
 third_behind {first = first} {second = second} none one other sent receiver got merge whole =
     let early = take_in_sender (take_in_sender none one sent.one_sent sent.one_merged) other

@@ -120,9 +120,9 @@ pub fn phases_named<R: Runtime, J: ChannelName + Send + Sync>(
     let mut all = sent?;
     let got = got?;
     all.merge(got.me);
-    if !got.rx.settle(&mut all) {
+    let Some(0) = got.rx.settle(&mut all) else {
         return Err(io::Error::new(ErrorKind::Other, "messages are left"));
-    }
+    };
     Ok(got.items)
 }
 

@@ -66,9 +66,9 @@ pub fn transfer_named<R: Runtime, J: ChannelName + Send + Sync>(
     let ((one, left), (other, right)) = (one?, other?);
     all.merge(one);
     all.merge(other);
-    if !rx.settle(&mut all) {
+    let Some(0) = rx.settle(&mut all) else {
         return Err(ErrorKind::Other.into());
-    }
+    };
     Ok((left, right))
 }
 

@@ -47,7 +47,7 @@ impl<T: Drop, R: Waits, A: Allocator + Copy, J: ChannelName> Receiver<T, R, A, T
     /// tx.send(&mut me, 7)?;
     /// let (mut me, message) = block_on(&rt, rx.recv_async(me))?;
     /// assert_eq!(rt; message, Ok(7));
-    /// assert!(rt; rx.settle(&mut me));
+    /// assert_eq!(rt; rx.settle(&mut me), Some(0));
     /// ```
     pub fn recv_async(&self, me: ChannelParty<T, J, A>) -> TracedRecvFut<'_, T, R, J, A>
         ensures start { result.start.value ≡ me }

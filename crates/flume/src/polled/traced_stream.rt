@@ -48,7 +48,7 @@ impl<T: Drop, R: Waits, A: Allocator + Copy, J: ChannelName> Receiver<T, R, A, T
     /// let mut messages = rx.stream(me);
     /// assert_eq!(rt; block_on(&rt, messages.next())?, Some(7));
     /// let (mut me, _message) = messages.cancel();
-    /// assert!(rt; rx.settle(&mut me));
+    /// assert_eq!(rt; rx.settle(&mut me), Some(0));
     /// ```
     pub fn stream(&self, me: ChannelParty<T, J, A>) -> TracedRecvStream<'_, T, R, J, A>
         ensures start { result.start.value ≡ me }

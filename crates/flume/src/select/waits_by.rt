@@ -56,7 +56,7 @@ impl<'a, V, L: Arms<V, A> + Drop, A: Allocator + Copy> Selector<'a, V, L, A> {
     /// let arms = Selector::new().recv(&stopped, Result::ok).recv_by(&rx, me, Result::ok);
     /// let (message, (_, mut me)) = arms.wait_by();
     /// assert_eq!(rt; message?, Some(7));
-    /// assert!(rt; rx.settle(&mut me));
+    /// assert_eq!(rt; rx.settle(&mut me), Some(0));
     /// ```
     pub fn recv_by<T: Drop, F, R: Waits, J: ChannelName>(
         self,
