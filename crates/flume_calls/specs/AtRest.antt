@@ -1,5 +1,6 @@
 -- A channel between two calls of its ends, and what a call leaves.
-use Rattle.std.specs.Prelude.{◌==◌, ◌+◌, ℕ, if◌then◌else◌, Option, Some, None}
+use Rattle.std.specs.Prelude.{◌≡◌, ◌<◌, ◌+◌, ◌⊎◌, ℕ}
+use Rattle.flume_model.specs.Limits.{most}
 use Rattle.flume_state.specs.Sends.{NoDueSend}
 use Rattle.flume_state.specs.Receivers.{NoDueReceiver}
 use Rattle.flume_state.specs.State.{State, message_count}
@@ -13,9 +14,14 @@ module _ {T S : Type 0} where
     pub sends : NoDueSend s.sends
     pub receivers : NoDueReceiver s.entries
 
-  -- how many messages are queued or blocked, if an end lives
-  abbrev pub messages_left : State T S → Option ℕ
-  messages_left s = if s.senders + s.receivers == 0 then None else Some (message_count s)
+  -- so many messages are queued or blocked, and an end lives
+  pub record IsLeft (n : ℕ) (s : State T S) : Type 0 where
+    pub left : message_count s ≡ n
+    pub end_lives : 0 < s.senders + s.receivers
+
+  -- no end lives, or there are too many messages to be counted
+  abbrev pub NoneCounted : State T S → Type 0
+  NoneCounted s = (s.senders + s.receivers ≡ 0) ⊎ (most < message_count s)
 
 module _ {T S N B : Type 0} (A : Type 0) (rings : B → ℕ → S → B → Type 0) where
   -- one turn, and then one ring of the bell for each ticket that is due

@@ -1,5 +1,5 @@
 //! What a channel's lock protects.
-ghost use Rattle.std.specs.Prelude.{◌≡◌, ◌↔◌, [], IsTrue, IsSome, None, length};
+ghost use Rattle.std.specs.Prelude.{◌≡◌, ◌↔◌, ℕ, [], IsTrue, IsSome, Some, None, length};
 ghost use Rattle.std.specs.Option.{option_copied, option_and_then};
 ghost use Rattle.flume_model.specs.Log.{opens};
 ghost use Rattle.flume_model.specs.Entries.{waiting_count, woken_count};
@@ -9,7 +9,7 @@ ghost use Rattle.flume_state.specs.State.{State, new_state};
 ghost use Rattle.flume_state.specs.Signals.{signal_of};
 ghost use Rattle.flume_core.specs.Represents.{IsReachable, Represents};
 ghost use Rattle.flume_core.specs.StateFacts.{ChannelFacts, NobodyIsStuck};
-ghost use Rattle.flume_calls.specs.AtRest.{IsAtRest, IsCallAtRest, messages_left};
+ghost use Rattle.flume_calls.specs.AtRest.{IsAtRest, IsCallAtRest, IsLeft, NoneCounted};
 ghost use Rattle.flume_calls.specs.EachIsRung.{EachIsRung};
 ghost use Rattle.flume_calls.specs.Polls.{IsPollCall, AtMostOneStep};
 ghost use Rattle.flume_calls.specs.NoCallWaits.{NoCallWaits};
@@ -144,9 +144,11 @@ impl<T: Drop, S: Drop, A: Allocator + Copy> Locked<T, S, A> {
         self.chan.waiting_len()
     }
 
-    /// How many messages are queued or blocked; `None` if no end lives. No step.
+    /// How many messages are queued or blocked. `None`: no end lives, or no `usize` is so great. No
+    /// step.
     pub fn messages_left(&self) -> Option<usize>
-        ensures left { result ≡ messages_left self.now }
+        ensures left { (n : ℕ) → result ≡ Some n → IsLeft n self.now }
+        ensures none { result ≡ None → NoneCounted self.now }
     {
         let Reply::Number(senders) = self.chan.sender_count() else {
             unreachable!();
@@ -157,7 +159,10 @@ impl<T: Drop, S: Drop, A: Allocator + Copy> Locked<T, S, A> {
         if senders == 0 && receivers == 0 {
             return None;
         }
-        Some(self.chan.available(usize::MAX))
+        let Reply::Number(queued) = self.chan.len() else {
+            unreachable!();
+        };
+        queued.checked_add(self.chan.blocked_len())
     }
 
     /// The signal that the parked call left last. No step.
