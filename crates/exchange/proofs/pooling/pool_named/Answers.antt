@@ -1,4 +1,4 @@
-use Rattle.flume_laws.proofs.TakeInLemmas.{none_taken_in, split_off, take_in_sender}
+use Rattle.flume_laws.proofs.TakeInLemmas.{none_taken_in, split_off, take_in_sender, emptied}
 use Rattle.flume_laws.proofs.TakeInLemmas.{take_in_receiver, exchanged}
 use Rattle.exchange.proofs.PoolLemmas.{pooled}
 use Rattle.exchange.proofs.pooling.pool_named.Goals as goal
@@ -24,6 +24,6 @@ returns g c =
     let right = take_in_receiver sent collector.new c.in_ok-collected.ensures.got
     c.merge-6.ensures.merged in
     record {
-      halved = pooled (exchanged left c.if-not-settle.ensures.whole)
-          (exchanged right c.if-not-settle-2.ensures.whole);
+      halved = pooled (exchanged left (emptied c.in-Some-eq0.ensures.whole c.in-Some-eq0.field-0-test))
+          (exchanged right (emptied c.in-Some-eq0-settle-2.ensures.whole c.in-Some-eq0-settle-2.field-0-test));
     }
