@@ -13,8 +13,10 @@ returns g c =
     c.merge.ensures.merged) one.reader first.1.calls c.merge-2.ensures.merged in
     let right = take_in_receiver (take_in_sender (none_taken_in other.rest) other.writer second.0
     c.merge-3.ensures.merged) other.reader second.1.calls c.merge-4.ensures.merged in
-    let to_first = same_in_order (exchanged left (emptied c.in-Some-eq0.ensures.whole c.in-Some-eq0.field-0-test)) in
-    let to_second = same_in_order (exchanged right (emptied c.in-Some-eq0-settle-2.ensures.whole c.in-Some-eq0-settle-2.field-0-test)) in
+    let first_whole = emptied c.in-Some-eq0.ensures.whole c.in-Some-eq0.field-0-test in
+    let second_whole = emptied c.in-Some-eq0-settle.ensures.whole c.in-Some-eq0-settle.field-0-test in
+    let to_first = same_in_order (exchanged left first_whole) in
+    let to_second = same_in_order (exchanged right second_whole) in
     record {
       halved = (
         rw (first.1.items, one.none) (sym to_first),

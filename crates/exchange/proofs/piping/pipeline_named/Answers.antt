@@ -19,6 +19,8 @@ returns g c =
     collector.rest in
     let sent = take_in_sender start writer.new ran.sent.1.sent c.merge-3.ensures.merged in
     let right = take_in_receiver sent collector.new c.in_ok-collected.ensures.got c.merge-4.ensures.merged in
-    let first = same_in_order (exchanged left (emptied c.in-Some-eq0.ensures.whole c.in-Some-eq0.field-0-test)) in
-    let second = same_in_order (exchanged right (emptied c.in-Some-eq0-settle-2.ensures.whole c.in-Some-eq0-settle-2.field-0-test)) in
+    let first_whole = emptied c.in-Some-eq0.ensures.whole c.in-Some-eq0.field-0-test in
+    let second_whole = emptied c.in-Some-eq0-settle.ensures.whole c.in-Some-eq0-settle.field-0-test in
+    let first = same_in_order (exchanged left first_whole) in
+    let second = same_in_order (exchanged right second_whole) in
     record { halved = sym second ∙ ap halves (sym first) }

@@ -23,7 +23,6 @@ returns g c =
     c.merge-4.ensures.merged) other_writer.new ran.second.sent c.merge-5.ensures.merged in
     let right = take_in_receiver sent collector.new c.in_ok-collected.ensures.got
     c.merge-6.ensures.merged in
-    record {
-      halved = pooled (exchanged left (emptied c.in-Some-eq0.ensures.whole c.in-Some-eq0.field-0-test))
-          (exchanged right (emptied c.in-Some-eq0-settle-2.ensures.whole c.in-Some-eq0-settle-2.field-0-test));
-    }
+    let first_whole = emptied c.in-Some-eq0.ensures.whole c.in-Some-eq0.field-0-test in
+    let second_whole = emptied c.in-Some-eq0-settle.ensures.whole c.in-Some-eq0-settle.field-0-test in
+    record { halved = pooled (exchanged left first_whole) (exchanged right second_whole) }
