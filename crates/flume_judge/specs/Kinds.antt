@@ -1,5 +1,6 @@
 -- Whether an input is a recording.
-use Rattle.std.specs.Prelude.{◌≡◌, ◌==◌, ℕ, if◌then◌else◌, List, [], ◌∷◌, ◌++◌}
+use Rattle.std.specs.Prelude.{◌==◌, ◌⊎◌, ℕ, if◌then◌else◌, List, [], ◌∷◌}
+use Rattle.std.specs.List.{Contains}
 use Rattle.std.specs.Str.Lines.{lines}
 
 -- what is before the first space
@@ -7,15 +8,16 @@ abbrev pub first_word : List ℕ → List ℕ
 first_word [] = []
 first_word (x ∷ line) = if x == 32 then [] else x ∷ first_word line
 
--- the word ends in a colon
-abbrev pub EndsInColon : List ℕ → Type 0
-EndsInColon word = (name : List ℕ) × (word ≡ name ++ 58 ∷ [])
-
--- the second line's first word ends in a colon
+-- some line's first word has a colon
 abbrev pub HasColon : List (List ℕ) → Type 0
-HasColon (first ∷ second ∷ rest) = EndsInColon (first_word second)
-HasColon _ = ⊥
+HasColon [] = ⊥
+HasColon (line ∷ lines) = Contains (first_word line) 58 ⊎ HasColon lines
+
+-- some line behind the first one has such a word
+abbrev pub HasColonBehind : List (List ℕ) → Type 0
+HasColonBehind [] = ⊥
+HasColonBehind (first ∷ rest) = HasColon rest
 
 -- the bytes are read as a recording of calls, and else as a history of steps
 abbrev pub IsRecording : List ℕ → Type 0
-IsRecording input = HasColon (lines input)
+IsRecording input = HasColonBehind (lines input)
