@@ -38,6 +38,8 @@ pub fn sends_agree<T, A: Allocator>()
     ensures parks { (call : Call T) (reply : Reply T A) (next : SendNext T)
         → is_send call ≡ true → after_send reply next
         → stage_after call Tried reply ≡ stage_of_send next }
+    ensures begins { (message : T) (reply : Reply T A) (next : SendNext T) → after_send reply next
+        → stage_after (SendAsync message) Begun reply ≡ stage_of_send next }
     ensures asks { (call : Call T) (c : Channel T) (t : ℕ) (reply : Reply T A) (next : SendNext T)
         → is_send call ≡ true → IsReply c (PollSend t) reply → after_parked_send t false reply next
         → stage_after call (Parked t) reply ≡ stage_of_send next }
