@@ -1,7 +1,7 @@
 //! Tells a recording of calls from a history of steps.
 ghost use Rattle.std.specs.Prelude.{IsTrue, ◌≡◌, ◌↔◌};
 ghost use Rattle.std.specs.Str.Lines.{lines};
-ghost use Rattle.flume_judge.specs.Kinds.{HasColon, IsRecording, first_word as word_of};
+ghost use Rattle.flume_judge.specs.Kinds.{IsRecording, first_word as word_of, has_colon as colon_in};
 
 use flume_script::reading::{next_line, part_at};
 
@@ -16,7 +16,7 @@ pub(crate) fn is_recording(input: &[u8]) -> bool
 }
 
 fn has_colon(mut rest: &[u8]) -> bool
-    ensures value { IsTrue result ↔ HasColon (lines rest.now) }
+    ensures value { result ≡ colon_in (lines rest.now) }
 {
     while let Some((line, later)) = next_line(rest) {
         if first_word(line).contains(&b':') {
