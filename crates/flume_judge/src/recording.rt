@@ -45,17 +45,14 @@ pub(crate) fn judge_recording<A: Allocator + Copy>(
             capacity,
             events,
             names,
-        } => match out_of_turn(alloc, &events)? {
-            Some(place) => refuse_turn(alloc, place),
-            None => judge(
-                alloc,
-                with_steps,
-                first_line(input),
-                capacity,
-                events,
-                &names,
-            ),
-        },
+        } => judge_in_turn(
+            alloc,
+            with_steps,
+            first_line(input),
+            capacity,
+            events,
+            &names,
+        ),
     }
 }
 
@@ -91,6 +88,25 @@ fn refuse_turn<A: Allocator + Copy>(alloc: A, place: usize) -> Result<ScriptOutp
 {
     let text = write_line(alloc, place + 2, "out of turn")?;
     Ok(ScriptOutput { text, status: 2 })
+}
+
+fn judge_in_turn<A: Allocator + Copy>(
+    alloc: A,
+    with_steps: bool,
+    first: &[u8],
+    capacity: Option<usize>,
+    events: Vec<Event<u64, A>, A>,
+    names: &[&[u8]],
+) -> Result<ScriptOutput<A>, NoMemory>
+    ensures judges { IfOk result (λ output. (input : List ℕ) (rest : List (List ℕ))
+        → lines input ≡ first.now ∷ rest
+        → IsRecordingText (lines input) capacity events.items (names_of names.now)
+        → JudgesCalls A with_steps input output.text.items output.status) }
+{
+    match out_of_turn(alloc, &events)? {
+        Some(place) => refuse_turn(alloc, place),
+        None => judge(alloc, with_steps, first, capacity, events, names),
+    }
 }
 
 fn judge<A: Allocator + Copy>(

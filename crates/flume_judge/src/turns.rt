@@ -1,5 +1,6 @@
 //! Whether each thread has one call at a time.
-ghost use Rattle.std.specs.Prelude.{IfNone, IfOk, IfSome, IsTrue, ◌↔◌, ℕ, List, ◌∷◌, reverse};
+ghost use Rattle.std.specs.Prelude.{IfNone, IfOk, IfSome, IsTrue, ◌↔◌, ◌<◌, ℕ, List, ◌∷◌, length};
+ghost use Rattle.std.specs.Prelude.{reverse};
 ghost use Rattle.flume_concurrent.specs.declared.event.Event.{Event};
 ghost use Rattle.flume_judge.specs.Turns.{AreInTurn, HasCalls, IsInTurn, IsOutOfTurn};
 
@@ -17,6 +18,7 @@ pub(crate) fn out_of_turn<A: Allocator + Copy>(
     alloc: A,
     events: &[Event<u64, A>],
 ) -> Result<Option<usize>, NoMemory>
+    ensures within { IfOk result (λ r. IfSome r (λ place. place < length events.now)) }
     ensures found { IfOk result (λ r. IfSome r (IsOutOfTurn events.now)) }
     ensures none { IfOk result (λ r. IfNone r (AreInTurn (reverse events.now))) }
 {
