@@ -139,6 +139,12 @@ module _ {T A : Type 0} where
         few = omega (arith, before.few);
       }
 
+  -- nothing is left
+  pub emptied : {capacity : Option ℕ} {actions : List (Action T A)} {n : ℕ}
+      → IsWhole capacity actions (Some n) → n ≡ 0 → IsWhole capacity actions (Some 0)
+  emptied {capacity = capacity} {actions = actions} whole none =
+      subst (λ n. IsWhole capacity actions (Some n)) none whole
+
   -- if its actions are all there were, and the channel was emptied, what was sent is what was got
   pub exchanged : {party : PartyState (Action T A)} {sents gots : List (List T)}
       {capacity : Option ℕ} → HasTakenIn party sents gots → IsWhole capacity party.actions (Some 0)
