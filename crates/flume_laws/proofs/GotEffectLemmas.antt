@@ -37,7 +37,7 @@ module _ {T : Type 0} where
   in_hand shown was (Some ticket) = if was ticket then as_list (shown ticket) else []
 
   -- what a change hands out to whoever makes it
-  abbrev takes : Change T → List T
+  abbrev pub takes : Change T → List T
   takes (Takes message receiver) = message ∷ []
   takes (Drains list) = list
   takes _ = []
@@ -58,7 +58,7 @@ module _ {T : Type 0} where
   drained shown (m ∷ list) = ap (λ more. m ∷ more) (drained shown list)
 
   -- a change hands out to whoever makes it, and to the one that it fills
-  hands_by : (shown : ℕ → Option T) (done : Change T) → flat_map (final shown) (hands_out done)
+  pub hands_by : (shown : ℕ → Option T) (done : Change T) → flat_map (final shown) (hands_out done)
       ≡ takes done ++ flat_map (final shown) (fill (fills done))
   hands_by shown (Drains list) = drained shown list
   hands_by shown _ = refl

@@ -68,7 +68,7 @@ module _ {T A : Type 0} where
       (λ held. omega (arith, nobody t, held_stands t m (entries o log) held)) is
 
   -- what was handed out and what is to come
-  all_to_come : (seen : ℕ → Option T) (rest : List (Action T A)) (past : Log T A)
+  pub all_to_come : (seen : ℕ → Option T) (rest : List (Action T A)) (past : Log T A)
       → flat_map (final seen) (handed_out past) ++ to_come seen past rest
       ≡ flat_map (final seen) (handed_out (reverse_aux rest past))
   all_to_come seen [] past = append-nil (flat_map (final seen) (handed_out past))

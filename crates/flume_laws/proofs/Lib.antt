@@ -48,9 +48,17 @@ mod JoinLemmas
 mod PhaseLemmas
 -- The message that comes back from a call that sends is the one that it offered.
 mod ComesBackLemmas
+-- Some elements of a list, in its order.
+mod SublistLemmas
+-- What one party got is, in its order, among what was handed out, whatever others did.
+mod GotAmongLemmas
+-- What one party got was offered, and kept.
+mod GotOfferedLemmas
 -- What callers cite: parties that become one again, and what they sent and got.
 pub mod TakeInLemmas
 -- What callers cite: a party that goes on after it took in others, so that they sent before it.
 pub mod GoOnLemmas
 -- What callers cite: an invariant of their own, before the first call and after one more.
 pub mod InvariantLemmas
+-- What callers cite: a party that made calls, and then confirmed.
+pub mod ConfirmLemmas

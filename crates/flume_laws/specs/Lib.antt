@@ -1,2 +1,3 @@
 pub mod Together
 pub mod Invariants
+pub mod Offered

@@ -4,11 +4,13 @@ ghost use Rattle.std.specs.List.{All, Contains};
 ghost use Rattle.flume_party.specs.Interleavings.{Interleaving};
 ghost use Rattle.flume_error.specs.Messages.{send_timeout_message};
 ghost use Rattle.flume_core.specs.declared.error.SendTimeoutError.{SendTimeoutError};
-ghost use Rattle.flume_actions.specs.Actions.{Action, IsWhole};
+ghost use Rattle.flume_actions.specs.Actions.{Action, IsPart, IsWhole};
+ghost use Rattle.flume_actions.specs.Calls.{AreCalls};
 ghost use Rattle.flume_actions.specs.SendCalls.{IsSend, IsPolledSend};
 ghost use Rattle.flume_laws.specs.Together.{Interleaved, EachAreCalls, AreExchanged};
 ghost use Rattle.flume_laws.specs.Together.{IsExchangedSoFar, AreRouted, AreExchangedInPhases};
 ghost use Rattle.flume_laws.specs.Together.{sum_over_all};
+ghost use Rattle.flume_laws.specs.Offered.{IsSublist, offered_in, kept_in};
 
 use std::alloc::Allocator;
 
@@ -72,4 +74,16 @@ pub fn what_comes_back_is_what_was_offered<T, A: Allocator>()
         (message : T) (error : SendTimeoutError T) → IsWhole capacity all left
         → All (Contains all) made → IsPolledSend message made (Err error)
         → send_timeout_message error ≡ message }
+{}
+
+/// If a party made whole calls, and its actions are part of what was done to a channel, whatever
+/// others did there, then what it got was offered there: each message once, and in the order in
+/// which they were offered. None of them went back to its sender.
+pub fn what_was_got_was_offered<T, A: Allocator>()
+    ensures offered { (capacity : Option ℕ) (actions : List (Action T A)) (sent got : List T)
+        → AreCalls actions sent got → (part : IsPart capacity actions)
+        → IsSublist got (offered_in part.history) }
+    ensures kept { (capacity : Option ℕ) (actions : List (Action T A)) (sent got : List T)
+        → AreCalls actions sent got → (part : IsPart capacity actions)
+        → IsSublist got (kept_in part.history) }
 {}
