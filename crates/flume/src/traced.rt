@@ -43,8 +43,8 @@ use crate::sender::Sender;
 use crate::shared::Waits;
 use crate::weak::WeakSender;
 use flume_core::error::{
-    CapacityError, NoMemory, RecvError, RecvTimeoutError, SendError, SendTimeoutError, TryRecvError,
-    TrySendError,
+    CapacityError, NoMemory, RecvError, RecvTimeoutError, SendError, SendTimeoutError,
+    TryRecvError, TrySendError,
 };
 use flume_deadline::Deadline;
 pub use flume_keeper::{ChannelName, ChannelParty, Traced, UnopenedChannel};

@@ -54,7 +54,11 @@ fn take_event<A: Allocator>(
                     receive(offers, *message);
                 }
             }
-            _ => close(offers, *thread, matches!(answer, Answer::Sent | Answer::Dropped)),
+            _ => close(
+                offers,
+                *thread,
+                matches!(answer, Answer::Sent | Answer::Dropped),
+            ),
         },
     }
     Ok(())
