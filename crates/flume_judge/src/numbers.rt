@@ -36,17 +36,7 @@ fn take_event<A: Allocator>(
     event: &Event<u64, A>,
 ) -> Result<(), NoMemory> {
     match event {
-        Event::Begins { thread, call } => {
-            if let Some(message) = call.message() {
-                let (thread, is_open) = (*thread, true);
-                let offer = Offer {
-                    thread,
-                    message,
-                    is_open,
-                };
-                offers.push(offer).map_err(AllocError::from)?;
-            }
-        }
+        Event::Begins { thread, call } => offer(offers, *thread, call.message())?,
         Event::Returns { thread, answer } => match answer {
             Answer::Got(message) => receive(offers, *message),
             Answer::Drained(list) => {
@@ -60,6 +50,23 @@ fn take_event<A: Allocator>(
                 matches!(answer, Answer::Sent | Answer::Dropped),
             ),
         },
+    }
+    Ok(())
+}
+
+fn offer<A: Allocator>(
+    offers: &mut Vec<Offer, A>,
+    thread: usize,
+    message: Option<u64>,
+) -> Result<(), NoMemory> {
+    if let Some(message) = message {
+        let is_open = true;
+        let offer = Offer {
+            thread,
+            message,
+            is_open,
+        };
+        offers.push(offer).map_err(AllocError::from)?;
     }
     Ok(())
 }
