@@ -1,14 +1,19 @@
--- What is exchanged or routed between one sender and one receiver, and a run that leaves a message.
-use Rattle.std.proofs.Common.{rules, ◌≡◌, ℕ, List, [], ◌∷◌, Ok, Some, None, refl, sym, subst, ◌∙◌}
+-- What is exchanged or routed between one sender and one receiver, and runs that leave a message.
+use Rattle.std.proofs.Common.{rules, ◌≡◌, ℕ, false, List, [], ◌∷◌, Ok, Err, Some, None, refl, sym, subst, ◌∙◌}
+use Rattle.flume_core.specs.declared.error.RecvTimeoutError.TheVariants.{Timeout}
 use Rattle.flume_calls.specs.declared.calls.send.SendNext.TheVariants.{Done}
+use Rattle.flume_model.specs.declared.step.Kind.TheVariants.{Plain}
+use Rattle.flume_model.specs.declared.step.Step.TheVariants.{Recv, Withdraw}
+use Rattle.flume_model.specs.declared.step.Reply.TheVariants.{Parked, Gone}
 use Rattle.flume_party.specs.Interleavings.{Interleaving, End, Left, Right}
 use Rattle.flume_party.proofs.InterleavingLemmas.{interleaved_alone}
 use Rattle.flume_actions.specs.Actions.{IsWhole}
-use Rattle.flume_actions.specs.Calls.{AndCall, NoCalls, TriesToSend}
+use Rattle.flume_actions.specs.ReceiveCalls.{Polled, Left as LeftBy}
+use Rattle.flume_actions.specs.Calls.{AndCall, NoCalls, TriesToSend, PollsToReceive}
 use Rattle.flume_laws.specs.Together.{Interleaved, AreEmpty, EachMerged, NoList, AndLists}
 use Rattle.flume_laws.specs.Together.{EachAreCalls, AndParty, NoParty}
 use Rattle.flume_laws.proofs.TakeInLemmas.{one_in_order}
-use Rattle.party_tests.specs.NearMisses.{one_sent}
+use Rattle.party_tests.specs.NearMisses.{one_sent, waited_for}
 
 -- an interleaving begins as one of its lists
 pub begins_so : {xs ys zs : List ℕ} → Interleaving xs ys zs → xs ≡ 1 ∷ 2 ∷ [] → ys ≡ 3 ∷ []
@@ -40,3 +45,18 @@ one_is_whole = record {
 
 pub one_call : EachAreCalls (one_sent ∷ []) ((1 ∷ []) ∷ []) ([] ∷ [])
 one_call = AndParty (AndCall NoCalls (TriesToSend (Done (Ok tt)) (search rules))) NoParty
+
+-- and one of two calls, of which one waited, and the other sent a message
+pub waited_is_whole : IsWhole (Some 0) waited_for (Some 1)
+waited_is_whole = record {
+  history = waited_for;
+  all = refl;
+  run = search rules;
+  counted = λ n is. (cc is, refl);
+}
+
+pub two_calls : EachAreCalls
+    (((Recv Plain, Parked 1) ∷ (Withdraw 1, Gone false None) ∷ []) ∷ one_sent ∷ [])
+    ([] ∷ (1 ∷ []) ∷ []) ([] ∷ [] ∷ [])
+two_calls = AndParty (AndCall NoCalls (PollsToReceive {result = Err Timeout}
+    (Polled (search rules) (LeftBy (search rules))))) one_call

@@ -9,6 +9,8 @@ mod shared;
 mod threads;
 
 pub use near_misses::{
-    near_misses_are_not_exchanged, near_misses_are_not_routed, the_law_needs_an_empty_channel,
+    near_misses_are_not_exchanged, near_misses_are_not_routed,
+    the_bound_needs_the_number_of_parties, the_law_needs_an_empty_channel,
+    what_is_left_is_not_in_front,
 };
 pub use shared::{two_add, two_add_named};
