@@ -9,6 +9,7 @@ mod shared;
 mod threads;
 
 pub use near_misses::{
-    near_misses_are_not_exchanged, near_misses_are_not_routed, the_law_needs_an_empty_channel,
+    a_party_got_what_another_sent, near_misses_are_not_exchanged, near_misses_are_not_routed,
+    near_misses_were_not_offered, the_law_needs_an_empty_channel,
 };
 pub use shared::{two_add, two_add_named};

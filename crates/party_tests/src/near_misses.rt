@@ -1,9 +1,11 @@
 //! Near-misses of the laws of parties: lists that no channel exchanges, and what a law needs. The
 //! functions do nothing.
-ghost use Rattle.std.specs.Prelude.{ℕ, [], ◌∷◌, Some, None};
-ghost use Rattle.flume_actions.specs.Actions.{IsWhole};
+ghost use Rattle.std.specs.Prelude.{◌≡◌, ℕ, [], ◌∷◌, Some, None};
+ghost use Rattle.flume_actions.specs.Actions.{IsPart, IsWhole};
+ghost use Rattle.flume_actions.specs.Calls.{AreCalls};
+ghost use Rattle.flume_laws.specs.Offered.{IsSublist, offered_in};
 ghost use Rattle.flume_laws.specs.Together.{AreExchanged, AreRouted};
-ghost use Rattle.party_tests.specs.NearMisses.{one_sent, LawWhen};
+ghost use Rattle.party_tests.specs.NearMisses.{one_sent, one_got, three_tried, LawWhen};
 
 /// Lists that are exchanged, and near-misses of them, which are not.
 pub fn near_misses_are_not_exchanged()
@@ -28,4 +30,20 @@ pub fn near_misses_are_not_routed()
 pub fn the_law_needs_an_empty_channel()
     ensures one_sent { IsWhole None one_sent (Some 1) }
     ensures needed { ¬ LawWhen (Some 1) }
+{}
+
+/// What a party can have got of what was offered, and near-misses: of 1, 2 and 3, only 1 and 3 were
+/// taken.
+pub fn near_misses_were_not_offered()
+    ensures all { IsSublist (1 ∷ 3 ∷ []) (offered_in three_tried) }
+    ensures some { IsSublist (3 ∷ []) (offered_in three_tried) }
+    ensures doubled { ¬ IsSublist (1 ∷ 1 ∷ []) (offered_in three_tried) }
+    ensures refused { ¬ IsSublist (2 ∷ []) (offered_in three_tried) }
+    ensures swapped { ¬ IsSublist (3 ∷ 1 ∷ []) (offered_in three_tried) }
+{}
+
+/// A party got a message that another one sent: its calls are whole, and part of a run.
+pub fn a_party_got_what_another_sent()
+    ensures calls { AreCalls one_got [] (1 ∷ []) }
+    ensures part { (part : IsPart None one_got) × (part.others ≡ one_sent) }
 {}
