@@ -1,11 +1,11 @@
-"""Tells, while rt proves a crate and those below it, which one begins and how long it still takes.
+"""Tells, while rt proves a crate and those below it, which one begins.
 
     tools/proving.py NAME HINT CRATE [COMMAND..]
 
 Runs a COMMAND of rt in the folder of the CRATE. Lines on standard error begin with NAME. The first one, said before
-rt starts, tells how many crates are to be proved and how long that takes, and then the HINT; it is left out if all
-are proved. Where rt fails, standard error has what it printed. The status is rt's. Without a COMMAND, this prints how
-long it would take, or nothing if all are proved.
+rt starts, tells how many crates are to be proved, and then the HINT; it is left out if all are proved. Where rt fails,
+standard error has what it printed. The status is rt's. Without a COMMAND, this prints how many are to be proved, or
+nothing if all are.
 """
 
 import os
@@ -13,17 +13,10 @@ import re
 import signal
 import subprocess
 import sys
-import time
 
 sys.dont_write_bytecode = True
 from workspace import ROOT, crates, with_below  # noqa: E402
 
-# How many seconds the proof of a crate takes from scratch, on four cores that do nothing else.
-SECONDS = {"flume_model": 45, "flume_chain": 50, "flume_state": 105, "flume_error": 25, "flume_core": 135}
-SECONDS |= {"flume_script": 95, "flume_calls": 100, "flume_audit": 90, "flume_history": 90, "flume_deadline": 15}
-SECONDS |= {"flume": 265, "flume_run": 30, "flume_judge": 30, "flume_check": 15}
-SECONDS |= {"flume_concurrent": 90, "flume_recording": 45, "flume_explain": 270}
-OTHERS = 60
 # What rt prints before it proves a crate.
 BEGINS = re.compile(r"rt: chose --jobs .* for (\w+)$")
 
@@ -48,62 +41,29 @@ def unproved(crate, uses):
     return found
 
 
-def spoken(seconds):
-    """So many seconds in words."""
-    return f"{max(1, round(seconds))} s" if seconds < 90 else f"{round(seconds / 60)} min"
-
-
-class Pace:
-    """What is left to prove, at the pace of those crates that have been."""
-
-    def __init__(self, name, crates):
-        self.name, self.todo, self.of = name, list(crates), len(crates)
-        self.began = self.spent = self.expected = 0
-        self.crate = None
-
-    def say(self, text):
-        print(f"{self.name}: {text}", file=sys.stderr, flush=True)
-
-    def left(self):
-        return sum(SECONDS.get(it, OTHERS) for it in self.todo)
-
-    def begins(self, crate):
-        """Says that the proof of a crate begins."""
-        now = time.monotonic()
-        if self.crate == crate:
-            return
-        if self.crate:
-            self.spent += now - self.began
-            self.expected += SECONDS.get(self.crate, OTHERS)
-            self.todo = [it for it in self.todo if it != self.crate]
-        self.crate, self.began = crate, now
-        if crate not in self.todo:
-            self.todo.append(crate)
-            self.of += 1
-        number = self.of - len(self.todo) + 1
-        left, whose = self.left(), "on four cores"
-        if self.expected:
-            left, whose = left * self.spent / self.expected, "at this machine's pace"
-        self.say(f"proving {crate}, {number} of {self.of}; some {spoken(left)} left {whose}")
+def counted(crates):
+    return "1 crate" if len(crates) == 1 else f"{len(crates)} crates"
 
 
 def prove(name, hint, crate, command, given=None):
     """Runs a command of rt in the folder of a crate, and tells how far it is: its status, and what it printed."""
-    uses = crates()
-    pace = Pace(name, unproved(crate, uses))
-    if pace.todo:
-        count = "1 crate is" if pace.of == 1 else f"{pace.of} crates are"
-        said = f"{count} proved first, once: some {spoken(pace.left())} on four cores"
-        pace.say(said + (f"; {hint}" if hint else ""))
+
+    def say(text):
+        print(f"{name}: {text}", file=sys.stderr, flush=True)
+
+    todo, begun = unproved(crate, crates()), []
+    if todo:
+        say(f"{counted(todo)} to prove first, once" + (f"; {hint}" if hint else ""))
     pipe = {"stdout": subprocess.PIPE, "stderr": subprocess.STDOUT, "errors": "replace", "start_new_session": True}
     lines = []
     with subprocess.Popen(command, cwd=ROOT / "crates" / crate, stdin=given, **pipe) as ran:
         try:
             for line in ran.stdout:
                 lines.append(line)
-                begun = BEGINS.match(line)
-                if begun:
-                    pace.begins(begun[1])
+                begins = BEGINS.match(line)
+                if begins and begins[1] not in begun:
+                    begun.append(begins[1])
+                    say(f"proving {begins[1]}, {len(begun)} of {max(len(begun), len(todo))}")
         except BaseException:
             # Broken off: rt and all that it started end too.
             os.killpg(ran.pid, signal.SIGTERM)
@@ -114,8 +74,8 @@ def prove(name, hint, crate, command, given=None):
 def main():
     name, hint, crate, *command = sys.argv[1:]
     if not command:
-        pace = Pace(name, unproved(crate, crates()))
-        print(f"some {spoken(pace.left())} on four cores" if pace.todo else "")
+        todo = unproved(crate, crates())
+        print(f"{counted(todo)} to prove" if todo else "")
         return
     try:
         status, printed = prove(name, hint, crate, command)

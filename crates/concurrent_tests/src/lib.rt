@@ -4,4 +4,6 @@
 #[cfg(test)]
 mod fixtures;
 #[cfg(test)]
+mod futures;
+#[cfg(test)]
 mod rows;

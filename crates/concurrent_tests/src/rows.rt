@@ -226,31 +226,6 @@ b: recv
 b | try_recv -> empty
 b | recv block -> parked 1
 ! b | withdraw 1 -> gone
-= a future that is parked leaves as it is dropped
-unbounded
-f: recv_async
-f | recv plain -> parked 1
-f | withdraw 1 -> gone
-f -> dropped
-= and has to
-unbounded
-f: recv_async
-f | recv plain -> parked 1
-! f -> dropped
-= a future that was never polled makes no step
-unbounded
-f: send_async 1
-f -> dropped
-= a future that has sent its message may be dropped
-unbounded
-f: send_async 1
-f | send 1 -> sent
-f -> dropped
-= a call that isn't of a future is not dropped
-unbounded
-a: send 1
-a | try_send 1 -> sent
-! a -> dropped
 = a call that can't allocate what it would wait on is refused memory
 bounded 0
 a: send 1

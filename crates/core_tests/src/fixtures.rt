@@ -10,11 +10,6 @@ pub(crate) fn unwrap<T, E: Debug + Drop>(rt: &impl Abort, answer: Result<T, E>) 
     answer.expect(rt, "there is memory")
 }
 
-pub(crate) fn is_titled<T: Debug + PartialEq + Drop>(
-    rt: &impl Abort,
-    title: &str,
-    answer: T,
-    wanted: T,
-) {
-    assert_eq!(rt; answer, wanted, "{title}");
+pub(crate) fn holds(rt: &impl Abort, (title, fault): (&str, &str), truth: bool) {
+    assert!(rt; truth, "{title}: {fault}");
 }

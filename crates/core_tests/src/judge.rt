@@ -42,8 +42,6 @@ pub struct Judge {
     tickets: Vec<Ticket>,
     /// The last ticket that was issued.
     pub last_ticket: u64,
-    /// How many receivers were filled.
-    pub fills: u64,
     faults: u64,
     senders: usize,
     receivers: usize,
@@ -57,7 +55,6 @@ impl Judge {
             hand_outs: Vec::new(alloc),
             tickets: Vec::new(alloc),
             last_ticket: 0,
-            fills: 0,
             faults: 0,
             senders: 1,
             receivers: 1,
@@ -219,7 +216,6 @@ impl Judge {
             if self.set_state(ticket, TicketState::Filled) != TicketState::Parked {
                 self.fault();
             }
-            self.fills = self.fills.saturating_add(1);
             let message = None;
             self.hand_outs.push(HandOut { message, filled })?;
         }

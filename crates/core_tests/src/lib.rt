@@ -1,16 +1,24 @@
-//! Tests of `flume_core` that a script of `core_scripts` can't say: random scripts, messages that
-//! aren't numbers, and texts of errors.
+//! Tests of `flume_core` and `flume_script` that a script of `core_scripts` can't say: ends dropped
+//! anywhere, messages that aren't numbers, texts of errors, and which texts are scripts.
 #![tactic(auto)]
 
 #[cfg(test)]
+mod dropped_ends;
+#[cfg(test)]
 mod errors;
 #[cfg(test)]
-mod fixtures;
-pub mod judge;
+mod faults;
 #[cfg(test)]
-mod leaks;
+mod fixtures;
+#[cfg(test)]
+mod judge;
 #[cfg(test)]
 mod lists;
 #[cfg(test)]
 mod random_scripts;
-pub mod random_steps;
+#[cfg(test)]
+mod script_reader;
+#[cfg(test)]
+mod script_rows;
+#[cfg(test)]
+mod scripts;

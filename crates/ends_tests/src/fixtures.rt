@@ -1,21 +1,31 @@
 //! What can't be had aborts a test here: a `?` in a test costs the prover a second.
+use crate::runtime::TestRuntime;
 use flume::{Receiver, Sender, Waits};
+use futures::Future;
+use futures::executor::block_on;
 use std::alloc::{Allocator, Global};
 use std::fmt::Debug;
 use std::process::Abort;
 use std::thread;
 use std::thread::{JoinHandle, Threads};
 use std::time::{Clock, Instant};
+use test_support::counting::Counting;
 use test_support::ends::{one_hour, open};
 use test_support::watchdog::{Watchdog, start_watchdog_with};
 use test_support::work::Work;
+
+pub(crate) type Heap<'h> = &'h Counting<Global>;
 
 pub(crate) fn is<T: Debug + PartialEq + Drop>(rt: &impl Abort, answer: T, wanted: T) {
     assert_eq!(rt; answer, wanted);
 }
 
+pub(crate) fn holds(rt: &impl Abort, fault: &str, truth: bool) {
+    assert!(rt; truth, "{fault}");
+}
+
 pub(crate) fn unwrap<T, E: Debug + Drop>(rt: &impl Abort, answer: Result<T, E>) -> T {
-    answer.expect(rt, "there is memory")
+    answer.expect(rt, "the system gives what is asked for")
 }
 
 pub(crate) fn channel<T: Drop, R: Waits, A: Allocator + Copy>(
@@ -34,6 +44,12 @@ where
     W::Answer: Send + Drop + 'static,
 {
     thread::spawn(rt, move || work.work()).expect(rt, "a thread can be started")
+}
+
+pub(crate) fn run<R: TestRuntime, F: Future>(rt: &R, future: F) -> F::Output
+    requires { F.can_poll future }
+{
+    unwrap(rt, block_on(rt, future))
 }
 
 #[derive(Drop)]

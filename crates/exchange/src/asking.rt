@@ -268,7 +268,10 @@ where
     let (writer, other) = other;
     right.merge(writer.me);
     right.merge(other.me);
-    let (Some(0), Some(0)) = (one.rx.settle(&mut left), other.rx.settle(&mut right)) else {
+    let Some(0) = one.rx.settle(&mut left) else {
+        return Err(io::Error::new(ErrorKind::Other, "replies are left"));
+    };
+    let Some(0) = other.rx.settle(&mut right) else {
         return Err(io::Error::new(ErrorKind::Other, "replies are left"));
     };
     Ok((one.items, other.items))

@@ -64,7 +64,10 @@ where
     left.merge(halved.reader);
     right.merge(halved.writer);
     right.merge(collected.me);
-    let (Some(0), Some(0)) = (halved.rx.settle(&mut left), collected.rx.settle(&mut right)) else {
+    let Some(0) = halved.rx.settle(&mut left) else {
+        return Err(io::Error::new(ErrorKind::Other, "messages are left"));
+    };
+    let Some(0) = collected.rx.settle(&mut right) else {
         return Err(io::Error::new(ErrorKind::Other, "messages are left"));
     };
     Ok(collected.items)

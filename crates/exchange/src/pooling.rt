@@ -117,7 +117,10 @@ where
     right.merge(first.writer);
     right.merge(second.writer);
     right.merge(collected.me);
-    let (Some(0), Some(0)) = (first.rx.settle(&mut left), collected.rx.settle(&mut right)) else {
+    let Some(0) = first.rx.settle(&mut left) else {
+        return Err(io::Error::new(ErrorKind::Other, "messages are left"));
+    };
+    let Some(0) = collected.rx.settle(&mut right) else {
         return Err(io::Error::new(ErrorKind::Other, "messages are left"));
     };
     Ok(collected.items)

@@ -82,6 +82,24 @@ fn calls_time_out_and_futures_are_dropped_and_a_receive_is_refused_memory(rt: Ho
 }
 
 #[test]
+fn a_receive_that_is_dropped_takes_no_message(rt: HostRuntime) {
+    for (answer, wanted) in [
+        (Answer::Got(5), Checked::Explained),
+        (Answer::Empty, Checked::Breaks(5)),
+    ] {
+        let events = [
+            begins(0, Call::Send(5)),
+            returns(0, Answer::Sent),
+            begins(1, Call::RecvAsync),
+            returns(1, Answer::Dropped),
+            begins(2, Call::TryRecv),
+            returns(2, answer),
+        ];
+        is(&rt, (None, 1000), &events, wanted);
+    }
+}
+
+#[test]
 fn a_channel_that_is_closed_has_no_message_left(rt: HostRuntime) {
     let events = [
         begins(0, Call::Recv),

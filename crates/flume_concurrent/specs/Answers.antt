@@ -1,5 +1,5 @@
 -- What a call at a stage may return.
-use Rattle.std.specs.Prelude.{Bool, true, false, ◌||◌, nat_eq}
+use Rattle.std.specs.Prelude.{Bool, true, false, ◌||◌, ◌&&◌, nat_eq}
 use Rattle.std.specs.Option.{option_eq}
 use Rattle.std.specs.Bool.{beq}
 use Rattle.std.specs.Cmp.Lexicographic.{pointwise}
@@ -41,11 +41,16 @@ module _ {T A : Type 0} where
   is_dropped RecvAsync Dropped = true
   is_dropped _ _ = false
 
+  -- whether a call that has come to this answer may have been dropped: not with a message
+  abbrev pub may_be_dropped : Answer T A → Bool
+  may_be_dropped (Got message) = false
+  may_be_dropped _ = true
+
   -- whether a call at this stage may return this
   abbrev pub may_return : (T → T → Bool) → Call T → Stage T A → Answer T A → Bool
   may_return equal call Begun recorded = is_dropped call recorded
   may_return equal call Tried recorded =
       equal_answers equal recorded NoMemory || is_dropped call recorded
   may_return equal call (Answered own) recorded =
-      equal_answers equal recorded own || is_dropped call recorded
+      equal_answers equal recorded own || (may_be_dropped own && is_dropped call recorded)
   may_return equal call _ recorded = false

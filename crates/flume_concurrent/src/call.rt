@@ -33,7 +33,8 @@ pub enum Call<T> {
 }
 
 /// What a call returns, but for a message that it hands back, which is its own. `Dropped`: it is a
-/// future dropped before it was read. `NoEnd`: no such end is left. `Capacity(None)`: unbounded.
+/// future dropped before it was read; a receive that has a message isn't. `NoEnd`: no such end is
+/// left. `Capacity(None)`: unbounded.
 #[derive(Drop)]
 #[derive_where(PartialEq, Eq; T)]
 pub enum Answer<T, A: Allocator = Global> {

@@ -4,7 +4,7 @@ ghost use Rattle.std.specs.BTreeMap.{get};
 ghost use Rattle.std.specs.Ordering.{nat_cmp};
 ghost use Rattle.flume_model.specs.EqualSteps.{equal_steps};
 ghost use Rattle.flume_model.specs.declared.step.Step.{Step};
-ghost use Rattle.flume_concurrent.specs.Answers.{is_dropped, may_return};
+ghost use Rattle.flume_concurrent.specs.Answers.{is_dropped, may_be_dropped, may_return};
 ghost use Rattle.flume_concurrent.specs.Explanations.{Fits, IsNextStep};
 ghost use Rattle.flume_concurrent.specs.Following.{HasOpen};
 ghost use Rattle.flume_concurrent.specs.declared.event.Item.{Item};
@@ -46,7 +46,7 @@ impl<T: Copy + Eq> Call<T> {
         match stage {
             Stage::Begun => dropped,
             Stage::Tried => *recorded == Answer::NoMemory || dropped,
-            Stage::Answered(own) => *recorded == *own || dropped,
+            Stage::Answered(own) => *recorded == *own || (own.may_be_dropped() && dropped),
             Stage::Parked(_) | Stage::Refused(_) => false,
         }
     }
@@ -58,6 +58,14 @@ impl<T: Copy + Eq> Call<T> {
             (self, recorded),
             (Call::SendAsync(_) | Call::RecvAsync, Answer::Dropped)
         )
+    }
+}
+
+impl<T, A: Allocator> Answer<T, A> {
+    fn may_be_dropped(&self) -> bool
+        ensures dropped { result ≡ may_be_dropped self.now }
+    {
+        !matches!(self, Answer::Got(_))
     }
 }
 

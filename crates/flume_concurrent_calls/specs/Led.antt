@@ -40,6 +40,11 @@ module _ {T : Type 0} where
   untimed (sending.Done (Err (send.Timeout back))) = sending.Done (Err (send.NoMemory back))
   untimed next = next
 
+  -- a receive that is polled stays parked if it is refused memory
+  abbrev pub unrefused : RecvNext T → RecvNext T
+  unrefused (receiving.Refused ticket) = receiving.Park ticket
+  unrefused next = next
+
   -- whether it is a receive that blocks
   abbrev pub blocks_to_receive : Call T → Bool
   blocks_to_receive Recv = true

@@ -1,5 +1,6 @@
 -- What callers cite: a party that goes on after it took in others, so that they sent before it.
-use Rattle.std.proofs.Common.{◌≡◌, ℕ, ◌+◌, List, [], ◌∷◌, ◌++◌, Option, Some, refl, ap, sym, subst, ◌∙◌}
+use Rattle.std.proofs.Common.{◌≡◌, ℕ, ◌+◌, List, [], ◌∷◌, ◌++◌, Option, Some, refl, ap, sym, subst}
+use Rattle.std.proofs.Common.{◌∙◌, arith}
 use Rattle.flume_party.specs.Interleavings.{Interleaving}
 use Rattle.flume_party.specs.Parties.{PartyState, party_of, Merged}
 use Rattle.flume_party.proofs.InterleavingLemmas.{interleaved_alone, interleaved_swap}
@@ -42,6 +43,7 @@ module _ {T A : Type 0} where
     calls = AndParty did.calls NoParty;
     sent = λ line all. all;
     got = λ line all. all;
+    few = omega arith;
   }
 
   -- nobody else yet
@@ -54,6 +56,7 @@ module _ {T A : Type 0} where
     calls = NoParty;
     sent = λ line all. all;
     got = λ line all. all;
+    few = omega arith;
   }
 
   -- before and after
@@ -87,6 +90,7 @@ module _ {T A : Type 0} where
   pub go_on_sender : {party party' : PartyState (Action T A)} {sent : List T}
       {sents gots : List (List T)} → HasTakenIn party sents gots
       → HasMadeCalls party party' sent [] → HasGoneOn party' sents (sent ∷ []) [] gots
+  unfolding own_calls
   go_on_sender {party = party} {gots = gots} before did =
       let own = own_calls did in
       record {
@@ -105,6 +109,7 @@ module _ {T A : Type 0} where
           calls = own.calls;
           sent = own.sent;
           got = λ line list. leave_out [] line (own.got line list);
+          few = omega arith;
         };
         rest = nobody_else;
         merged = went_on did;

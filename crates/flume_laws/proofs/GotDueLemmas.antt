@@ -7,8 +7,8 @@ use Rattle.flume_party.specs.Interleavings.{Interleaving, End}
 use Rattle.flume_laws.specs.Together.{Interleaved}
 use Rattle.flume_laws.proofs.MergeLemmas.{left_all, right_all}
 use Rattle.flume_laws.proofs.TurnLemmas.{parked_of, Course}
-use Rattle.flume_laws.proofs.PartyLemmas.{Member, actions_of}
-use Rattle.flume_laws.proofs.GotMemberLemmas.{parked_under, here}
+use Rattle.flume_laws.proofs.PartyLemmas.{Member, actions_of, AreFree}
+use Rattle.flume_laws.proofs.GotMemberLemmas.{parked_under}
 use Rattle.flume_laws.proofs.GotMemberLemmas.{none_merged}
 
 module _ {T A : Type 0} where
@@ -126,20 +126,18 @@ module _ {T A : Type 0} where
 
   -- parties with nothing to do get nothing
   pub due_none : (held : Option ℕ → List T) (members : List (Member T A)) → held None ≡ []
-      → Interleaved (actions_of members) []
-      → Due held members [] × ((t : ℕ) → parked_under t members ≡ 0)
-  due_none held [] none merged = (record { dues = []; each = tt; merged = refl }, λ t. refl)
+      → Interleaved (actions_of members) [] → Due held members [] × AreFree members
+  due_none held [] none merged = (record { dues = []; each = tt; merged = refl }, tt)
   due_none held (m ∷ members) none merged =
       by_parts (none_merged m.actions merged.0 merged.2) (due_none held members none)
     where
       by_parts : (m.actions ≡ []) × (merged.0 ≡ [])
-          → (Interleaved (actions_of members) []
-          → Due held members [] × ((t : ℕ) → parked_under t members ≡ 0))
-          → Due held (m ∷ members) [] × ((t : ℕ) → parked_under t (m ∷ members) ≡ 0)
+          → (Interleaved (actions_of members) [] → Due held members [] × AreFree members)
+          → Due held (m ∷ members) [] × AreFree (m ∷ members)
       by_parts both deeper =
           let over = subst (λ list. Course list m.stand m.sent m.got) both.0 m.course in
           let rest = deeper (subst (Interleaved (actions_of members)) both.1 merged.1) in
           let empty = ap (λ stand. held (parked_of stand)) (sym over.0) ∙ sym (append-nil (held (parked_of m.stand))) in (
             due_cons held m members [] [] [] (over.2 ∙ (sym none ∙ empty)) rest.0 End,
-            λ t. (let none_here = ap (λ stand. here t (parked_of stand)) over.0 in omega (arith, none_here, rest.1 t)),
+            (over.0, rest.1),
           )

@@ -1,6 +1,6 @@
 -- What parties got is what was handed out, in its order.
 use Rattle.std.proofs.Common.{◌≡◌, ℕ, zero, suc, Bool, false, List, [], ◌∷◌, ◌++◌, length, take}
-use Rattle.std.proofs.Common.{drop, map}
+use Rattle.std.proofs.Common.{◌≤◌, drop, map}
 use Rattle.std.proofs.Common.{Option, Some, None, refl, ap, sym, subst, ◌∙◌, arith}
 use Rattle.std.proofs.lemmas.List.{append-nil, append_assoc, nil_from_length, take-append-drop}
 use Rattle.std.proofs.lemmas.Grind.{common_steps, flat_map-append}
@@ -20,12 +20,12 @@ use Rattle.flume_model.proofs.order.KeptLemmas.{line_is_open}
 use Rattle.flume_actions.specs.Actions.{Action}
 use Rattle.flume_laws.specs.Together.{Interleaved}
 use Rattle.flume_laws.proofs.TurnLemmas.{parked_of}
-use Rattle.flume_laws.proofs.PartyLemmas.{Member, AreFree, Parties}
-use Rattle.flume_laws.proofs.GotMemberLemmas.{here, parked_under}
+use Rattle.flume_laws.proofs.PartyLemmas.{Member, AreFree, parkers, Parties}
 use Rattle.flume_laws.proofs.GotDueLemmas.{AreDue}
 use Rattle.flume_laws.proofs.GotEntryLemmas.{stands, held_stands}
 use Rattle.flume_laws.proofs.GotEffectLemmas.{as_list, final, in_hand}
-use Rattle.flume_laws.proofs.GotRunLemmas.{to_come, outcome}
+use Rattle.flume_laws.proofs.GotRunLemmas.{to_come, Outcome, outcome}
+use Rattle.flume_laws.proofs.StandingLemmas.{standing_first}
 
 -- what none are left of is all
 taken_all : {X : Type 0} (n : ℕ) (xs : List X) → drop n xs ≡ [] → take n xs ≡ xs
@@ -81,15 +81,6 @@ module _ {T A : Type 0} where
       ∙ all_to_come seen rest (p ∷ past))
 
   -- of parties that are free
-  free_unparked : (t : ℕ) (members : List (Member T A)) → AreFree members
-      → parked_under t members ≡ 0
-  free_unparked t [] free = refl
-  free_unparked t (m ∷ members) free = omega (
-    arith,
-    ap (λ stand. here t (parked_of stand)) free.0,
-    free_unparked t members free.1,
-  )
-
   free_dues : (held : Option ℕ → List T) (members : List (Member T A)) (dues : List (List T))
       → held None ≡ [] → AreFree members → AreDue held members dues
       → dues ≡ map (λ member. member.got) members
@@ -102,24 +93,33 @@ module _ {T A : Type 0} where
       let others = free_dues held members dues none free.1 each.1 in
       ap (λ list. list ∷ dues) first ∙ ap (λ lists. m.got ∷ lists) others
 
+  -- what parties are due from the first action on, and how it stands in the end
+  pub outcome_of : (opening : Opening) (most : ℕ) (history : List (Action T A))
+      (sents gots : List (List T)) → IsRun opening (reverse history)
+      → is_over (reverse history) ≡ false → (s : Parties history sents gots)
+      → parkers s.members ≤ most
+      → Outcome opening most (shown (reverse history)) [] history s.members
+  outcome_of o most history sents gots run still s few =
+      outcome o most (shown (reverse history)) history [] s.members run still (λ t. refl)
+      (standing_first o most s.members s.free few) s.merged
+
   -- what each party got, merged, is what was handed out
-  got_in_order : (opening : Opening) (history : List (Action T A)) (sents gots : List (List T))
+  pub got_in_order : (opening : Opening) (history : List (Action T A)) (sents gots : List (List T))
       → IsRun opening (reverse history) → is_over (reverse history) ≡ false
       → Parties history sents gots
       → Interleaved gots (messages (take (hand_outs (reverse history)) (kept (reverse history))))
   got_in_order o history sents gots run still s =
       let log : Log T A = reverse history in
       let seen : ℕ → Option T = shown log in
-      let end = outcome o seen history [] s.members run still (λ t. refl)
-      (λ t. free_unparked t s.members s.free) s.merged in
-      let given = free_dues (in_hand seen (was_filled {T = T} {A = A} [])) s.members end.due.dues refl
-      s.free end.due.each ∙ s.gots_are in
+      let end = outcome_of o (parkers s.members) history sents gots run still s (omega arith) in
+      let given = free_dues (in_hand seen (was_filled {T = T} {A = A} [])) s.members end.due.dues
+      refl s.free end.due.each ∙ s.gots_are in
       let all = all_to_come seen history [] in
       let order = in_order o log run in
       let placed = placed_messages seen (handed_out log) (kept log)
       (λ j g e.
       (let at = order j g e in
-      (at.0, at.1, final_is o log g at.0.message still end.nobody at.2))) in
+      (at.0, at.1, final_is o log g at.0.message still (λ t. sym (end.last.agree t)) at.2))) in
       subst (λ lists. Interleaved lists (messages (take (hand_outs log) (kept log)))) given
       (subst (Interleaved end.due.dues) (all ∙ placed) end.due.merged)
 

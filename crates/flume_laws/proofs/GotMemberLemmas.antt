@@ -6,7 +6,7 @@ use Rattle.flume_party.specs.Interleavings.{Interleaving, End, Left, Right}
 use Rattle.flume_actions.specs.Actions.{Action}
 use Rattle.flume_laws.specs.Together.{Interleaved}
 use Rattle.flume_laws.proofs.TurnLemmas.{parked_of}
-use Rattle.flume_laws.proofs.PartyLemmas.{Member, actions_of}
+use Rattle.flume_laws.proofs.PartyLemmas.{Member, actions_of, AreFree}
 
 -- one if this is the ticket
 abbrev pub here : ℕ → Option ℕ → ℕ
@@ -42,6 +42,16 @@ module _ {T A : Type 0} where
       → here t (parked_of m.stand) ≤ parked_under t (before ++ m ∷ after)
   parked_one t [] after m = omega arith
   parked_one t (x ∷ before) after m = omega (arith, parked_one t before after m)
+
+  -- no party that is free is parked
+  pub free_unparked : (t : ℕ) (members : List (Member T A)) → AreFree members
+      → parked_under t members ≡ 0
+  free_unparked t [] free = refl
+  free_unparked t (m ∷ members) free = omega (
+    arith,
+    ap (λ stand. here t (parked_of stand)) free.0,
+    free_unparked t members free.1,
+  )
 
   -- the party that makes the next action
   pub record Next (p : Action T A) (all : List (Action T A)) (members : List (Member T A))

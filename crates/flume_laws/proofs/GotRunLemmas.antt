@@ -9,7 +9,6 @@ use Rattle.flume_model.specs.Offers.{hands_out, fill}
 use Rattle.flume_model.specs.Counts.{is_over}
 use Rattle.flume_model.specs.Fills.{shows_to, shown}
 use Rattle.flume_model.specs.Channel.{Channel, channel}
-use Rattle.flume_model.specs.Parked.{entries}
 use Rattle.flume_model.specs.Replies.{IsRun}
 use Rattle.flume_model.proofs.EntryChangeLemmas.{fills}
 use Rattle.flume_model.proofs.EntryShapeLemmas.{filled_if_named, entries_apart}
@@ -21,6 +20,7 @@ use Rattle.flume_laws.proofs.TurnLemmas.{Course}
 use Rattle.flume_laws.proofs.PartyLemmas.{Member, actions_of}
 use Rattle.flume_laws.proofs.GotMemberLemmas.{parked_under, parked_else}
 use Rattle.flume_laws.proofs.GotMemberLemmas.{parked_one, next}
+use Rattle.flume_laws.proofs.StandingLemmas.{Agree, Standing, standing_turn, standing_last}
 use Rattle.flume_laws.proofs.GotDueLemmas.{Due, due_more, due_filled, due_none}
 use Rattle.flume_laws.proofs.GotEntryLemmas.{stands, stands_by, held_stands}
 use Rattle.flume_laws.proofs.GotEntryLemmas.{filled_was_empty}
@@ -37,15 +37,11 @@ module _ {T A : Type 0} where
   to_come shown past (p ∷ rest) =
       flat_map (final shown) (hands_out (change past p.0 p.1)) ++ to_come shown (p ∷ past) rest
 
-  -- as many parties are parked under each ticket as entries have it
-  abbrev pub Agree : Opening → Log T A → List (Member T A) → Type 0
-  Agree o past members = (t : ℕ) → parked_under t members ≡ stands t (entries o past)
-
-  -- they are what the parties are due, and in the end none is parked
-  pub record Outcome (o : Opening) (seen : ℕ → Option T) (past : Log T A)
+  -- they are what the parties are due, and this is how it stands in the end
+  pub record Outcome (o : Opening) (most : ℕ) (seen : ℕ → Option T) (past : Log T A)
       (rest : List (Action T A)) (members : List (Member T A)) : Type 0 where
     pub due : Due (in_hand seen (was_filled past)) members (to_come seen past rest)
-    pub nobody : (t : ℕ) → stands t (entries o (reverse_aux rest past)) ≡ 0
+    pub last : Standing o most (reverse_aux rest past) []
 
   -- what was handed to parties before a step that filled one of them
   before_fill : (o : Opening) (seen : ℕ → Option T) (past : Log T A) (p : Action T A)
@@ -79,15 +75,16 @@ module _ {T A : Type 0} where
           (λ parked same. in_hand_filled seen (was_filled past) t parked empty same) one d)
 
   -- a step that is one party's
-  owned : (o : Opening) (seen : ℕ → Option T) (past : Log T A) (p : Action T A)
+  owned : (o : Opening) (most : ℕ) (seen : ℕ → Option T) (past : Log T A) (p : Action T A)
       (rest later : List (Action T A)) (before after : List (Member T A)) (m : Member T A)
       → IsRun o (p ∷ past) → is_over (p ∷ past) ≡ false
       → ((t : ℕ) (x : T) → shows_to t p.0 p.1 ≡ Some x → seen t ≡ Some x)
-      → Agree o past (before ++ m ∷ after) → Course (p ∷ later) m.stand m.sent m.got
-      → ((n : Member T A) → n.actions ≡ later → Agree o (p ∷ past) (before ++ n ∷ after)
-      → Outcome o seen (p ∷ past) rest (before ++ n ∷ after))
-      → Outcome o seen past (p ∷ rest) (before ++ m ∷ after)
-  owned o seen past p rest later before after m run still shows agree course deeper =
+      → Standing o most past (before ++ m ∷ after) → m.actions ≡ p ∷ later
+      → ((n : Member T A) → n.actions ≡ later → Standing o most (p ∷ past) (before ++ n ∷ after)
+      → Outcome o most seen (p ∷ past) rest (before ++ n ∷ after))
+      → Outcome o most seen past (p ∷ rest) (before ++ m ∷ after)
+  owned o most seen past p rest later before after m run still shows standing first deeper =
+      let course = subst (λ list. Course list m.stand m.sent m.got) first m.course in
       let n : Member T A = record {
         stand = course.after;
         actions = later;
@@ -96,20 +93,21 @@ module _ {T A : Type 0} where
         course = course.rest;
       } in
       let s = stepped o past p run still in
-      let e = effect o past seen p.0 p.1 m.stand course.after course.sent_now course.got_now course.turn
-      run
-      (λ t. omega (arith, agree t, parked_one t before after m)) shows in
+      let e = effect o past seen p.0 p.1 m.stand course.after course.sent_now course.got_now
+      course.turn run
+      (λ t. omega (arith, standing.agree t, parked_one t before after m)) shows in
       let stand = λ (t : ℕ). stands_by (channel o past) s.closes (change past p.0 p.1) t s.fit
       (entries_apart o past run.1) in
       let agrees : Agree o (p ∷ past) (before ++ n ∷ after) = λ t. omega (
         arith,
-        agree t,
+        standing.agree t,
         parked_else t before after m n,
         stand t,
         ap (stands t) s.entries_are,
         e.moves t,
       ) in
-      let rest_of = deeper n refl agrees in
+      let rest_of = deeper n refl (standing_turn o most past p before after m n course.sent_now
+      course.got_now run first course.turn agrees standing) in
       let line : List T = to_come seen (p ∷ past) rest in
       let filled : List T = flat_map (final seen) (fill (filled_by p.1)) in
       let d = due_more (in_hand seen (was_filled past)) before after m n course.got_now e.own
@@ -118,27 +116,25 @@ module _ {T A : Type 0} where
       record {
         due = subst (Due (in_hand seen (was_filled past)) (before ++ m ∷ after))
             (sym (append_assoc e.own filled line) ∙ ap (λ list. list ++ line) (sym e.hands)) d;
-        nobody = rest_of.nobody;
+        last = rest_of.last;
       }
 
   -- from each moment of a run on
-  pub outcome : (o : Opening) (seen : ℕ → Option T) (rest : List (Action T A)) (past : Log T A)
-      (members : List (Member T A)) → IsRun o (reverse_aux rest past)
+  pub outcome : (o : Opening) (most : ℕ) (seen : ℕ → Option T) (rest : List (Action T A))
+      (past : Log T A) (members : List (Member T A)) → IsRun o (reverse_aux rest past)
       → is_over (reverse_aux rest past) ≡ false
-      → ((t : ℕ) → seen t ≡ shown (reverse_aux rest past) t) → Agree o past members
-      → Interleaved (actions_of members) rest → Outcome o seen past rest members
-  outcome o seen [] past members run still same agree merged =
+      → ((t : ℕ) → seen t ≡ shown (reverse_aux rest past) t) → Standing o most past members
+      → Interleaved (actions_of members) rest → Outcome o most seen past rest members
+  outcome o most seen [] past members run still same standing merged =
       let none = due_none (in_hand seen (was_filled past)) members refl merged in
-      record { due = none.0; nobody = λ t. sym (agree t) ∙ none.1 t }
-  outcome o seen (p ∷ rest) past members run still same agree merged =
+      record { due = none.0; last = standing_last o most past members none.1 standing }
+  outcome o most seen (p ∷ rest) past members run still same standing merged =
       let found = next members p rest merged in
       let now = run_before o rest (p ∷ past) run in
-      let m = found.member in
-      subst (Outcome o seen past (p ∷ rest)) (sym found.place)
-      (owned o seen past p rest found.later found.before found.after m now
+      subst (Outcome o most seen past (p ∷ rest)) (sym found.place)
+      (owned o most seen past p rest found.later found.before found.after found.member now
       (open_before o rest (p ∷ past) run still)
       (λ t x is. same t ∙ shown_now o rest past p t x run is)
-      (subst (Agree o past) found.place agree)
-      (subst (λ list. Course list m.stand m.sent m.got) found.first m.course)
-      (λ n is agrees. outcome o seen rest (p ∷ past) (found.before ++ n ∷ found.after) run still
-      same agrees (found.rest n is)))
+      (subst (Standing o most past) found.place standing) found.first
+      (λ n is stands. outcome o most seen rest (p ∷ past) (found.before ++ n ∷ found.after) run
+      still same stands (found.rest n is)))

@@ -22,13 +22,21 @@ mod GotShownLemmas
 mod GotRunLemmas
 -- What parties got is what was handed out, in its order.
 mod GotInOrderLemmas
+-- Offers whose tickets are live.
+mod LiveOfferLemmas
+-- The offers that are blocked after a run have tickets that are live.
+mod BlockedLemmas
+-- How parties stand at each moment of a run: which are blocked, and how many wait at most.
+mod StandingLemmas
 -- What an action of a run offers, and how often a ticket of a send is issued and ended.
 mod SentOfferLemmas
 -- What a course sends is what its actions offer, and it ends each ticket as often as it issues it.
 mod SentCourseLemmas
 -- What some parties sent, together, is what is kept of the offers of a run, in their order.
 mod SentOrderLemmas
--- What whole calls sent is what they got.
+-- How much is left in a channel after whole calls.
+mod LeftLemmas
+-- What whole calls sent is what they got, and then what is left.
 mod ExchangeLemmas
 -- What each receiver got of each sender.
 mod RouteLemmas

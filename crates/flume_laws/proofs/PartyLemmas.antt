@@ -1,13 +1,24 @@
 -- Parties, each with its course. What moves no message is one more party's, which does nothing.
-use Rattle.std.proofs.Common.{◌≡◌, Bool, true, false, not, List, [], ◌∷◌, map, refl, ap, arith}
+use Rattle.std.proofs.Common.{◌≤◌, ℕ, ◌||◌, length, Option, Some, None, ◌≡◌, Bool, true, false, not}
+use Rattle.std.proofs.Common.{List, [], ◌∷◌, map, refl, ap, arith}
 use Rattle.std.proofs.Common.{filter}
 use Rattle.std.proofs.lemmas.Grind.{common_steps}
+use Rattle.std.specs.List.{list_any}
 use Rattle.flume_party.specs.Interleavings.{Interleaving}
 use Rattle.flume_actions.specs.Actions.{Action, is_of_party}
 use Rattle.flume_laws.specs.Together.{Interleaved, EachAreCalls, NoParty, AndParty}
-use Rattle.flume_laws.proofs.MergeLemmas.{filter_merged}
-use Rattle.flume_laws.proofs.TurnLemmas.{Stand, Free, Acts, Course, course_from}
+use Rattle.flume_laws.proofs.MergeLemmas.{bit, tally, filter_merged}
+use Rattle.flume_laws.proofs.TurnLemmas.{Stand, parked_of, Free, Acts, Course, course_from}
 use Rattle.flume_laws.proofs.CallLemmas.{calls_course}
+
+-- whether there is a ticket
+abbrev pub is_parked : Option ℕ → Bool
+is_parked None = false
+is_parked (Some t) = true
+
+-- one at most
+one_bit : (b : Bool) → bit b ≤ 1
+one_bit b = grind (arith, common_steps)
 
 -- a party: how it stands, what it is still to do, and what it sends and gets by that
 pub record Member (T A : Type 0) : Type 0 where
@@ -26,6 +37,14 @@ module _ {T A : Type 0} where
   abbrev pub AreFree : List (Member T A) → Type 0
   AreFree [] = Unit {0}
   AreFree (m ∷ members) = (m.stand ≡ Free) × AreFree members
+
+  -- whether the party is parked, or moves a message later
+  abbrev pub may_park : Member T A → Bool
+  may_park m = is_parked (parked_of m.stand) || list_any is_of_party m.actions
+
+  -- how many parties may park
+  abbrev pub parkers : List (Member T A) → ℕ
+  parkers members = tally (λ m. bit (may_park m)) members
 
   -- the parties whose actions these are, and what each sends and gets
   pub record Parties (all : List (Action T A)) (sents gots : List (List T)) : Type 0 where
@@ -83,3 +102,37 @@ module _ {T A : Type 0} where
       and_party _ _ history [] [] sents gots (free_course history)
       (filter_merged is_of_party history)
       (calling parties sents gots (filter is_of_party history) calls merged)
+
+  -- what moves no message parks nobody
+  none_park : (history : List (Action T A))
+      → list_any is_of_party (filter (λ p. not (is_of_party p)) history) ≡ false
+  none_park [] = refl
+  none_park (p ∷ later) = grind (arith, common_steps, none_park later)
+
+  calling_park : (parties : List (List (Action T A))) (sents gots : List (List T))
+      (all : List (Action T A)) (calls : EachAreCalls parties sents gots)
+      (merged : Interleaved parties all)
+      → parkers (calling parties sents gots all calls merged).members ≤ length parties
+  unfolding calling and_party
+  calling_park _ _ _ all NoParty none = omega arith
+  calling_park _ _ _ all
+      (AndParty {actions = actions} {others = others} {sents = sents} {gots = gots} calls rest)
+      merged =
+      omega (
+        arith,
+        one_bit (list_any is_of_party actions),
+        calling_park others sents gots merged.0
+            rest merged.1,
+      )
+
+  -- so no more than those that made the calls
+  pub few_park : (history : List (Action T A)) (parties : List (List (Action T A)))
+      (sents gots : List (List T)) (merged : Interleaved parties (filter is_of_party history))
+      (calls : EachAreCalls parties sents gots)
+      → parkers (all_parties history parties sents gots merged calls).members ≤ length parties
+  unfolding all_parties and_party
+  few_park history parties sents gots merged calls = omega (
+    arith,
+    ap bit (none_park history),
+    calling_park parties sents gots (filter is_of_party history) calls merged,
+  )

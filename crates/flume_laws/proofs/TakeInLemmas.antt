@@ -1,16 +1,19 @@
 -- What callers cite: parties that become one again, and what they sent and got.
-use Rattle.std.proofs.Common.{◌≡◌, ℕ, List, [], ◌∷◌, ◌++◌, Option, Some, refl, ap, sym, subst, ◌∙◌}
+use Rattle.std.proofs.Common.{◌≡◌, ℕ, ◌+◌, ◌≤◌, List, [], ◌∷◌, ◌++◌, length, Option, Some, refl, ap}
+use Rattle.std.proofs.Common.{sym}
+use Rattle.std.proofs.Common.{subst, ◌∙◌, arith}
 use Rattle.flume_party.specs.Interleavings.{Interleaving}
 use Rattle.flume_party.specs.Parties.{PartyState, party_of, Merged}
 use Rattle.flume_party.proofs.InterleavingLemmas.{interleaved_alone, interleaved_swap}
 use Rattle.flume_actions.specs.Actions.{Action, IsWhole}
 use Rattle.flume_actions.specs.Callers.{HasMadeCalls}
-use Rattle.flume_laws.specs.Together.{Interleaved, AreExchanged, sum_over_all}
+use Rattle.flume_laws.specs.Together.{Interleaved, AreExchanged, IsExchangedSoFar, sum_over_all}
 use Rattle.flume_laws.specs.Together.{EachAreCalls, NoParty, AndParty, AreRouted}
 use Rattle.flume_laws.proofs.JoinLemmas.{only_right}
 use Rattle.flume_laws.proofs.RouteLemmas.{routed}
 use Rattle.flume_laws.proofs.MergeLemmas.{leave_out}
-use Rattle.flume_laws.proofs.ExchangeLemmas.{exchange}
+use Rattle.flume_laws.proofs.ExchangeLemmas.{exchange, exchange_so_far}
+use Rattle.flume_laws.proofs.LeftLemmas.{within_more}
 use Rattle.flume_laws.proofs.SumLemmas.{same_sum}
 
 module _ {X : Type 0} where
@@ -42,6 +45,8 @@ module _ {T A : Type 0} where
     pub calls : EachAreCalls parties all_sents all_gots
     pub sent : (line : List T) → Interleaved all_sents line → Interleaved sents line
     pub got : (line : List T) → Interleaved all_gots line → Interleaved gots line
+    -- each of these parties is in the first lists or in the second
+    pub few : length parties ≤ length sents + length gots
 
   -- a party that did nothing
   pub none_taken_in : {party : PartyState (Action T A)} {parts : ℕ} → party ≡ party_of parts []
@@ -54,6 +59,7 @@ module _ {T A : Type 0} where
     calls = NoParty;
     sent = λ line all. all;
     got = λ line all. all;
+    few = omega arith;
   }
 
   -- one is split off
@@ -69,6 +75,7 @@ module _ {T A : Type 0} where
         calls = before.calls;
         sent = before.sent;
         got = before.got;
+        few = before.few;
       })
 
   -- one that was new is taken in after its calls
@@ -91,6 +98,7 @@ module _ {T A : Type 0} where
         calls = AndParty did.calls before.calls;
         sent = λ line all. (all.0, before.sent all.0 all.1, all.2);
         got = λ line all. (all.0, before.got all.0 all.1, all.2);
+        few = omega (arith, before.few);
       }
 
   -- one that only sent
@@ -98,6 +106,7 @@ module _ {T A : Type 0} where
       {sents gots : List (List T)} → HasTakenIn party sents gots → new ≡ party_of parts []
       → HasMadeCalls new other sent [] → Merged party other both
       → HasTakenIn both (sent ∷ sents) gots
+  unfolding take_in
   take_in_sender {gots = gots} before fresh did merge =
       let all = take_in before fresh did merge in
       record {
@@ -108,6 +117,7 @@ module _ {T A : Type 0} where
         calls = all.calls;
         sent = all.sent;
         got = λ line list. leave_out gots line (all.got line list);
+        few = omega (arith, before.few);
       }
 
   -- one that only received
@@ -115,6 +125,7 @@ module _ {T A : Type 0} where
       {sents gots : List (List T)} → HasTakenIn party sents gots → new ≡ party_of parts []
       → HasMadeCalls new other [] got → Merged party other both
       → HasTakenIn both sents (got ∷ gots)
+  unfolding take_in
   take_in_receiver {sents = sents} before fresh did merge =
       let all = take_in before fresh did merge in
       record {
@@ -125,7 +136,14 @@ module _ {T A : Type 0} where
         calls = all.calls;
         sent = λ line list. leave_out sents line (all.sent line list);
         got = all.got;
+        few = omega (arith, before.few);
       }
+
+  -- nothing is left
+  pub emptied : {capacity : Option ℕ} {actions : List (Action T A)} {n : ℕ}
+      → IsWhole capacity actions (Some n) → n ≡ 0 → IsWhole capacity actions (Some 0)
+  emptied {capacity = capacity} {actions = actions} whole none =
+      subst (λ n. IsWhole capacity actions (Some n)) none whole
 
   -- if its actions are all there were, and the channel was emptied, what was sent is what was got
   pub exchanged : {party : PartyState (Action T A)} {sents gots : List (List T)}
@@ -134,6 +152,23 @@ module _ {T A : Type 0} where
   exchanged all whole =
       let both = exchange all.merged all.calls whole in
       (both.0, all.sent both.0 both.1, all.got both.0 both.2)
+
+  -- if its actions are all there were, and so many messages are left, what was sent is what was
+  -- got, and then what is left
+  pub exchanged_so_far : {party : PartyState (Action T A)} {sents gots : List (List T)}
+      {capacity : Option ℕ} {n : ℕ} → HasTakenIn party sents gots
+      → IsWhole capacity party.actions (Some n)
+      → IsExchangedSoFar capacity (length sents + length gots) sents gots n
+  exchanged_so_far {capacity = capacity} {n = n} all whole =
+      let both = exchange_so_far all.merged all.calls whole in
+      record {
+        line = both.line;
+        left = both.left;
+        sent = all.sent (both.line ++ both.left) both.sent;
+        got = all.got both.line both.got;
+        count = both.count;
+        within = within_more capacity _ _ n n all.few (omega arith) both.within;
+      }
 
   -- so each sum over what was sent is the sum over what was got
   pub sums_kept : {party : PartyState (Action T A)} {sents gots : List (List T)}
@@ -146,6 +181,12 @@ module _ {T : Type 0} where
   pub same_in_order : {sent got : List T} → AreExchanged (sent ∷ []) (got ∷ []) → sent ≡ got
   same_in_order all =
       sym (one_in_order all.1) ∙ one_in_order all.2
+
+  -- if some messages are left
+  pub left_in_order : {sent got : List T} {capacity : Option ℕ} {parties n : ℕ}
+      (all : IsExchangedSoFar capacity parties (sent ∷ []) (got ∷ []) n) → sent ≡ got ++ all.left
+  left_in_order all =
+      sym (one_in_order all.sent) ∙ ap (λ line. line ++ all.left) (one_in_order all.got)
 
   -- two senders and two receivers: who got what from whom
   pub two_routed : {first second left right : List T}

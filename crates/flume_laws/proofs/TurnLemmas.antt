@@ -5,6 +5,7 @@ use Rattle.std.proofs.lemmas.List.{append-nil, append_assoc}
 use Rattle.flume_model.specs.declared.step.Step.{Step}
 use Rattle.flume_model.specs.declared.step.Step.TheVariants.{TrySend, Send, PollSend, WithdrawSend}
 use Rattle.flume_model.specs.declared.step.Step.TheVariants.{TryRecv, Recv, Poll, Withdraw, Drain}
+use Rattle.flume_model.specs.declared.step.Step.TheVariants.{SetCapacity}
 use Rattle.flume_model.specs.declared.step.Kind.{Kind}
 use Rattle.flume_model.specs.declared.step.Reply.{Reply}
 use Rattle.flume_model.specs.declared.step.Reply.TheVariants.{Sent, Pending, Accepted, Returned}
@@ -49,11 +50,12 @@ module _ {T A : Type 0} where
   is_unparked (Withdraw ticket) reply = false
   is_unparked _ reply = true
 
-  -- whether nobody blocks by the action, and whoever makes it isn't blocked
+  -- whether nobody blocks by the action, whoever makes it isn't blocked, and it sets no capacity
   abbrev pub is_unblocked : Step T → Reply T A → Bool
   is_unblocked (Send message) (Pending ticket) = false
   is_unblocked (PollSend ticket) reply = false
   is_unblocked (WithdrawSend ticket) reply = false
+  is_unblocked (SetCapacity capacity) reply = false
   is_unblocked _ reply = true
 
   -- whether a parked receiver that is answered so stays parked

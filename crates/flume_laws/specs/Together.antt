@@ -1,6 +1,7 @@
 -- Several parties together.
-use Rattle.std.specs.Prelude.{◌≡◌, ℕ, List, [], ◌∷◌, ◌++◌}
+use Rattle.std.specs.Prelude.{◌≡◌, ℕ, List, [], ◌∷◌, ◌++◌, length, Option}
 use Rattle.std.specs.List.{sum_by}
+use Rattle.flume_model.specs.WaitLaws.{IsWithinCapacity}
 use Rattle.flume_party.specs.Interleavings.{Interleaving}
 use Rattle.flume_actions.specs.Actions.{Action}
 use Rattle.flume_actions.specs.Calls.{AreCalls}
@@ -15,6 +16,24 @@ module _ {X : Type 0} where
   -- what some parties sent, together, is what some parties got, in one order
   abbrev pub AreExchanged : List (List X) → List (List X) → Type 0
   AreExchanged sents gots = (line : List X) × Interleaved sents line × Interleaved gots line
+
+  -- What some parties sent is what some got, and then what is left: so many messages. They were in a
+  -- channel with this capacity, and so many parties used it.
+  pub record IsExchangedSoFar (capacity : Option ℕ) (parties : ℕ) (sents gots : List (List X))
+      (n : ℕ) : Type 0 where
+    -- the messages that were got, in one order
+    pub line : List X
+    -- the messages that are left
+    pub left : List X
+    -- what was sent is the line, and behind it what is left; each party's messages are in its order
+    pub sent : Interleaved sents (line ++ left)
+    -- what was got is the line; each party's messages are in its order
+    pub got : Interleaved gots line
+    -- so many are left
+    pub count : length left ≡ n
+    -- They are at most the greater of the capacity and the number of parties. Without a capacity, this
+    -- says nothing.
+    pub within : IsWithinCapacity capacity parties n
 
   -- What some parties sent early, what some sent late, and what others sent, is what some got, in one
   -- order. All that was sent early comes before all that was sent late.

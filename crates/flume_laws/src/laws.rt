@@ -1,5 +1,5 @@
 //! Laws of what parties did. These functions do nothing: each contract is a law.
-ghost use Rattle.std.specs.Prelude.{◌≡◌, ℕ, List, ◌++◌, Option, Some, Err};
+ghost use Rattle.std.specs.Prelude.{◌≡◌, ℕ, List, ◌++◌, length, Option, Some, Err};
 ghost use Rattle.std.specs.List.{All, Contains};
 ghost use Rattle.flume_party.specs.Interleavings.{Interleaving};
 ghost use Rattle.flume_error.specs.Messages.{send_timeout_message};
@@ -8,8 +8,9 @@ ghost use Rattle.flume_actions.specs.Actions.{Action, IsPart, IsWhole};
 ghost use Rattle.flume_actions.specs.Calls.{AreCalls};
 ghost use Rattle.flume_actions.specs.SendCalls.{IsSend, IsPolledSend};
 ghost use Rattle.flume_laws.specs.Together.{Interleaved, EachAreCalls, AreExchanged};
+ghost use Rattle.flume_laws.specs.Together.{IsExchangedSoFar, AreRouted, AreExchangedInPhases};
+ghost use Rattle.flume_laws.specs.Together.{sum_over_all};
 ghost use Rattle.flume_laws.specs.Offered.{IsSublist, offered_in, kept_in};
-ghost use Rattle.flume_laws.specs.Together.{AreRouted, AreExchangedInPhases, sum_over_all};
 
 use std::alloc::Allocator;
 
@@ -20,6 +21,16 @@ pub fn what_was_sent_is_what_was_got<T, A: Allocator>()
     ensures law { (capacity : Option ℕ) (parties : List (List (Action T A))) (all : List (Action T A))
         (sents gots : List (List T)) → Interleaved parties all → EachAreCalls parties sents gots
         → IsWhole capacity all (Some 0) → AreExchanged sents gots }
+{}
+
+/// If the parties' actions are all there were, each party made whole calls, and so many messages are
+/// left, then what they sent is what they got, and behind it what is left. These are at most as many
+/// as the capacity, or as there are parties, whichever is greater.
+pub fn what_is_left_was_sent_last<T, A: Allocator>()
+    ensures law { (capacity : Option ℕ) (n : ℕ) (parties : List (List (Action T A)))
+        (all : List (Action T A)) (sents gots : List (List T)) → Interleaved parties all
+        → EachAreCalls parties sents gots → IsWhole capacity all (Some n)
+        → IsExchangedSoFar capacity (length parties) sents gots n }
 {}
 
 /// If what some parties sent is what some parties got, in one line, then what one receiver got of one

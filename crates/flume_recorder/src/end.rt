@@ -86,7 +86,7 @@ impl<T: Drop, R: Waits, C: Allocator + Copy> End for Sender<T, R, C> {
     }
 
     fn set_capacity(&self, capacity: usize) -> Result<(), CapacityError> {
-        Sender::set_capacity(self, capacity)
+        self.set_capacity(capacity)
     }
 }
 
@@ -124,6 +124,6 @@ impl<T: Drop, R: Waits, C: Allocator + Copy> End for Receiver<T, R, C> {
     }
 
     fn set_capacity(&self, capacity: usize) -> Result<(), CapacityError> {
-        Receiver::set_capacity(self, capacity)
+        self.set_capacity(capacity)
     }
 }

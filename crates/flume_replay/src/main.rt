@@ -9,9 +9,7 @@ use std::alloc::Global;
 use std::{fs, io};
 
 fn main(rt: HostRuntime) -> io::Result<()> {
-    replay(&rt, "plain")?;
-    replay(&rt, "blocked")?;
-    replay(&rt, "parked")?;
+    replay(&rt, "scripts")?;
     judge(&rt, "histories")
 }
 

@@ -1,10 +1,12 @@
 //! What can't be had fails the test here: a `?` in a test costs the prover a second.
-use flume_history::check::Checked;
 use flume_model::step::{Reply, Step};
 use flume_script::reading::{opening_of, step_of};
 use std::alloc::{Allocator, Global};
 use std::fmt::Debug;
 use std::process::Abort;
+use test_support::counting::Counting;
+
+pub(crate) type Heap<'h> = &'h Counting<Global>;
 
 pub(crate) type Pair<A = Global> = (Step<u64>, Reply<u64, A>);
 
@@ -55,12 +57,12 @@ pub(crate) fn history_of<A: Allocator + Copy>(rt: &impl Abort, alloc: A, text: &
     History { capacity, pairs }
 }
 
-pub(crate) fn is(rt: &impl Abort, title: &str, answer: Checked, wanted: Checked) {
+pub(crate) fn is<T: Debug + PartialEq + Drop>(rt: &impl Abort, title: &str, answer: T, wanted: T) {
     assert_eq!(rt; answer, wanted, "{title}");
 }
 
-pub(crate) fn holds(rt: &impl Abort, fault: &str, truth: bool) {
-    assert!(rt; truth, "{fault}");
+pub(crate) fn holds(rt: &impl Abort, (title, fault): (&str, &str), truth: bool) {
+    assert!(rt; truth, "{title}: {fault}");
 }
 
 pub(crate) fn unwrap<T, E: Debug + Drop>(rt: &impl Abort, answer: Result<T, E>) -> T {

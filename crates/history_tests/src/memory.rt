@@ -41,7 +41,7 @@ fn check_with_refusals(
     let answer = check_history(&heap, history.capacity, &history.pairs);
     let refusals = heap.refusals();
     heap.refuse(false);
-    holds(rt, "blocks are left", heap.live() == live);
+    holds(rt, ("a check", "blocks are left"), heap.live() == live);
     let wanted = if refusals > 0 {
         Checked::NoMemory
     } else {
@@ -62,7 +62,7 @@ fn a_check_that_was_refused_memory_says_nothing_of_the_history(rt: HostRuntime) 
     }
     holds(
         &rt,
-        "refused never, or always",
+        ("a check", "refused never, or always"),
         growths > 0 && growths < MOST - 1,
     );
 }
@@ -74,6 +74,6 @@ fn a_check_that_stores_nothing_takes_no_memory(rt: HostRuntime) {
         (WRONG_AT_ONCE, Checked::Breaks(0)),
     ] {
         let refusals = check_with_refusals(&rt, rt.alloc(), row, (1, u64::MAX));
-        holds(&rt, "memory was taken", refusals == 0);
+        holds(&rt, ("a check", "memory was taken"), refusals == 0);
     }
 }

@@ -1,8 +1,8 @@
 //! Random histories of a channel, as they are and with one reply replaced, by both judges.
 use crate::fixtures::{History, holds, is, unwrap};
 use crate::random_replies::RandomReplies;
+use crate::random_steps::RandomSteps;
 use crate::slow_judge::judge;
-use core_tests::random_steps::RandomSteps;
 use flume_core::chan::Chan;
 use flume_history::check::{Checked, check_history};
 use flume_model::step::Reply;
@@ -90,7 +90,7 @@ fn a_history_breaks_at_a_reply_that_is_replaced_by_another_of_its_kind(rt: HostR
         replace_one(&rt, rt.alloc(), history, &mut replies, &mut text);
     }
     let is_each = KINDS.split_whitespace().all(|word| has_line(&text, word));
-    holds(&rt, "a kind of replies wasn't replaced", is_each);
+    holds(&rt, ("replies", "a kind wasn't replaced"), is_each);
 }
 
 #[test]
@@ -114,5 +114,5 @@ fn no_memory_in_place_of_a_reply_is_judged_alike(rt: HostRuntime) {
         *count = count.saturating_add(1);
     }
     let is_some = runs > 0 && later > 0 && there > 1000;
-    holds(&rt, "too few of one answer", is_some);
+    holds(&rt, ("replies", "too few of one answer"), is_some);
 }

@@ -23,10 +23,6 @@ impl RandomReplies {
         number ^ self.below(7).wrapping_add(1)
     }
 
-    fn other_count(&mut self, count: usize) -> usize {
-        count ^ (self.below(7) as usize).wrapping_add(1)
-    }
-
     fn other_filled(&mut self, filled: Option<u64>) -> Option<u64> {
         match filled {
             None => Some(self.below(8)),
@@ -39,7 +35,7 @@ impl RandomReplies {
         match capacity {
             None => Some(self.below(4) as usize),
             Some(_) if self.below(2) == 0 => None,
-            Some(capacity) => Some(self.other_count(capacity)),
+            Some(capacity) => Some(self.other(capacity as u64) as usize),
         }
     }
 
@@ -80,7 +76,7 @@ impl RandomReplies {
             Reply::Parked(ticket) => Reply::Parked(self.other(*ticket)),
             Reply::Gone { closed, filled } => self.other_gone(*closed, *filled),
             Reply::Drained(list) => Reply::Drained(self.other_list(rt, alloc, list)),
-            Reply::Number(number) => Reply::Number(self.other_count(*number)),
+            Reply::Number(number) => Reply::Number(self.other(*number as u64) as usize),
             Reply::Flag(truth) => Reply::Flag(!*truth),
             Reply::Capacity(capacity) => Reply::Capacity(self.other_capacity(*capacity)),
             _ => self.other_plain(reply),

@@ -54,6 +54,15 @@ module _ {T A : Type 0} where
   parks call (reply.Spent (Some back)) next is h = ap stage_of_send (sym h)
   parks call _ next is h = absurd h
 
+  begins : (message : T) (reply : Reply T A) (next : SendNext T) → after_send reply next
+      → stage_after (SendAsync message) Begun reply ≡ stage_of_send next
+  begins message (reply.Sent filled) next h = ap stage_of_send (sym h)
+  begins message (reply.Pending t) next h = ap stage_of_send (sym h)
+  begins message (reply.Closed back) next h = ap stage_of_send (sym h)
+  begins message (reply.NoMemory (Some back)) next h = ap stage_of_send (sym h)
+  begins message (reply.Spent (Some back)) next h = ap stage_of_send (sym h)
+  begins message _ next h = absurd h
+
   asks : (call : Call T) (c : Channel T) (t : ℕ) (reply : Reply T A) (next : SendNext T) → is_send call ≡ true
       → IsReply c (PollSend t) reply → after_poll_send t reply next → stage_after call (Parked t) reply ≡ stage_of_send next
   asks call c t reply.Accepted next is lawful h = ap stage_of_send (sym h)
@@ -83,6 +92,7 @@ pub returns : goal.returns
 returns g c = record {
   tries = tries;
   parks = parks;
+  begins = begins;
   asks = asks;
   leaves = leaves;
   dropped = dropped;

@@ -1,5 +1,5 @@
 use Rattle.std.proofs.Common.{sym}
-use Rattle.flume_laws.proofs.TakeInLemmas.{none_taken_in, take_in_sender, take_in_receiver}
+use Rattle.flume_laws.proofs.TakeInLemmas.{none_taken_in, take_in_sender, take_in_receiver, emptied}
 use Rattle.flume_laws.proofs.TakeInLemmas.{exchanged, same_in_order}
 use Rattle.exchange.proofs.asking.ask_named.Goals as goal
 
@@ -13,8 +13,10 @@ returns g c =
     c.merge.ensures.merged) one.reader first.1.calls c.merge-2.ensures.merged in
     let right = take_in_receiver (take_in_sender (none_taken_in other.rest) other.writer second.0
     c.merge-3.ensures.merged) other.reader second.1.calls c.merge-4.ensures.merged in
-    let to_first = same_in_order (exchanged left c.if-not-settle.ensures.whole) in
-    let to_second = same_in_order (exchanged right c.if-not-settle-2.ensures.whole) in
+    let first_whole = emptied c.in-Some-eq0.ensures.whole c.in-Some-eq0.field-0-test in
+    let second_whole = emptied c.in-Some-eq0-settle.ensures.whole c.in-Some-eq0-settle.field-0-test in
+    let to_first = same_in_order (exchanged left first_whole) in
+    let to_second = same_in_order (exchanged right second_whole) in
     record {
       halved = (
         rw (first.1.items, one.none) (sym to_first),

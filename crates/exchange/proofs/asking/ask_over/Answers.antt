@@ -1,4 +1,4 @@
-use Rattle.flume_laws.proofs.TakeInLemmas.{none_taken_in, split_off, take_in_sender}
+use Rattle.flume_laws.proofs.TakeInLemmas.{none_taken_in, split_off, take_in_sender, emptied}
 use Rattle.flume_laws.proofs.TakeInLemmas.{take_in_receiver, exchanged}
 use Rattle.exchange.proofs.AskingLemmas.{replied}
 use Rattle.exchange.proofs.asking.ask_over.Goals as goal
@@ -14,7 +14,8 @@ returns g c =
     let got = take_in_receiver start third.new ran.answered.got c.merge.ensures.merged in
     let all = take_in_sender (take_in_sender got first.new ran.first.asked c.merge-2.ensures.merged)
     second.new ran.second.asked c.merge-3.ensures.merged in
-    let halved = replied _ _ (exchanged all c.if-not-settle.ensures.whole) in
+    let whole = emptied c.in-Some-eq0.ensures.whole c.in-Some-eq0.field-0-test in
+    let halved = replied _ _ (exchanged all whole) in
     record {
       first = (rw halved.0 at ran.answered.to_first, ran.first.got);
       second = (rw halved.1 at ran.answered.to_second, ran.second.got);

@@ -1,6 +1,6 @@
 use Rattle.std.proofs.Common.{rules, []}
 use Rattle.flume_actions.specs.Callers.{HasMadeCalls}
-use Rattle.flume_laws.proofs.TakeInLemmas.{none_taken_in, split_off, take_in_sender}
+use Rattle.flume_laws.proofs.TakeInLemmas.{none_taken_in, split_off, take_in_sender, emptied}
 use Rattle.flume_laws.proofs.TakeInLemmas.{take_in_receiver, exchanged, two_in_order, two_routed}
 use Rattle.exchange.proofs.exchanging.exchange_named.Goals as goal
 
@@ -22,7 +22,8 @@ returns g c =
     second.new sent.1 c.merge-2.ensures.merged in
     let all = take_in_receiver (take_in_receiver senders third.new got.0 c.merge-3.ensures.merged)
     fourth.new got.1 c.merge-4.ensures.merged in
-    let line = exchanged all c.if-not-settle.ensures.whole in
+    let whole = emptied c.in-Some-eq0.ensures.whole c.in-Some-eq0.field-0-test in
+    let line = exchanged all whole in
     record {
       exchanged = (line.0, two_in_order line.1, two_in_order line.2);
       routed = two_routed line;

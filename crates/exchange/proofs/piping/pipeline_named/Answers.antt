@@ -1,5 +1,5 @@
 use Rattle.std.proofs.Common.{ap, sym, ◌∙◌}
-use Rattle.flume_laws.proofs.TakeInLemmas.{none_taken_in, split_off, take_in_sender}
+use Rattle.flume_laws.proofs.TakeInLemmas.{none_taken_in, split_off, take_in_sender, emptied}
 use Rattle.flume_laws.proofs.TakeInLemmas.{take_in_receiver, exchanged, same_in_order}
 use Rattle.exchange.specs.Halving.{halves}
 use Rattle.exchange.proofs.piping.pipeline_named.Goals as goal
@@ -19,6 +19,8 @@ returns g c =
     collector.rest in
     let sent = take_in_sender start writer.new ran.sent.1.sent c.merge-3.ensures.merged in
     let right = take_in_receiver sent collector.new c.in_ok-collected.ensures.got c.merge-4.ensures.merged in
-    let first = same_in_order (exchanged left c.if-not-settle.ensures.whole) in
-    let second = same_in_order (exchanged right c.if-not-settle-2.ensures.whole) in
+    let first_whole = emptied c.in-Some-eq0.ensures.whole c.in-Some-eq0.field-0-test in
+    let second_whole = emptied c.in-Some-eq0-settle.ensures.whole c.in-Some-eq0-settle.field-0-test in
+    let first = same_in_order (exchanged left first_whole) in
+    let second = same_in_order (exchanged right second_whole) in
     record { halved = sym second ∙ ap halves (sym first) }

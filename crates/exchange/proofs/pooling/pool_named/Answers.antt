@@ -1,4 +1,4 @@
-use Rattle.flume_laws.proofs.TakeInLemmas.{none_taken_in, split_off, take_in_sender}
+use Rattle.flume_laws.proofs.TakeInLemmas.{none_taken_in, split_off, take_in_sender, emptied}
 use Rattle.flume_laws.proofs.TakeInLemmas.{take_in_receiver, exchanged}
 use Rattle.exchange.proofs.PoolLemmas.{pooled}
 use Rattle.exchange.proofs.pooling.pool_named.Goals as goal
@@ -23,7 +23,6 @@ returns g c =
     c.merge-4.ensures.merged) other_writer.new ran.second.sent c.merge-5.ensures.merged in
     let right = take_in_receiver sent collector.new c.in_ok-collected.ensures.got
     c.merge-6.ensures.merged in
-    record {
-      halved = pooled (exchanged left c.if-not-settle.ensures.whole)
-          (exchanged right c.if-not-settle-2.ensures.whole);
-    }
+    let first_whole = emptied c.in-Some-eq0.ensures.whole c.in-Some-eq0.field-0-test in
+    let second_whole = emptied c.in-Some-eq0-settle.ensures.whole c.in-Some-eq0-settle.field-0-test in
+    record { halved = pooled (exchanged left first_whole) (exchanged right second_whole) }

@@ -1,6 +1,6 @@
 use Rattle.std.proofs.Common.{rules, []}
 use Rattle.flume_actions.specs.Callers.{HasMadeCalls}
-use Rattle.flume_laws.proofs.TakeInLemmas.{none_taken_in, split_off}
+use Rattle.flume_laws.proofs.TakeInLemmas.{none_taken_in, split_off, emptied}
 use Rattle.transfers.specs.Phases.{HasSentInPhases}
 use Rattle.transfers.proofs.BehindLemmas.{third_behind}
 use Rattle.transfers.proofs.phases.phases_named.Goals as goal
@@ -19,5 +19,5 @@ returns g c =
     second.rest) receiver.rest in
     record {
       phases = third_behind none first.new second.new sent receiver.new got c.merge.ensures.merged
-          c.if-not-settle.ensures.whole;
+          (emptied c.in-Some-eq0.ensures.whole c.in-Some-eq0.field-0-test);
     }

@@ -1,7 +1,7 @@
 use Rattle.std.proofs.Common.{rules, ◌≡◌, ◌+◌, sum}
 use Rattle.flume_laws.specs.Invariants.{HasMadeCallsWhere}
 use Rattle.flume_laws.proofs.InvariantLemmas.{total_kept}
-use Rattle.flume_laws.proofs.TakeInLemmas.{none_taken_in, split_off, take_in, sums_kept}
+use Rattle.flume_laws.proofs.TakeInLemmas.{none_taken_in, split_off, take_in, sums_kept, emptied}
 use Rattle.transfers.proofs.tellers.transfer_named.Goals as goal
 
 pub returns : goal.returns
@@ -19,5 +19,5 @@ returns g c =
     record {
       kept = total_kept (λ amount. amount) c.args.accounts.0 one.1 c.args.accounts.1 other.1 left.sent
           right.sent left.got right.got left.so right.so
-          (sums_kept all c.if-not-settle.ensures.whole (λ amount. amount));
+          (sums_kept all (emptied c.in-Some-eq0.ensures.whole c.in-Some-eq0.field-0-test) (λ amount. amount));
     }
