@@ -1,19 +1,23 @@
--- What is exchanged or routed between one sender and one receiver, and runs that leave a message.
-use Rattle.std.proofs.Common.{rules, ◌≡◌, ℕ, false, List, [], ◌∷◌, Ok, Err, Some, None, refl, sym, subst, ◌∙◌}
+-- What is exchanged or routed between one sender and one receiver, what of a list is in its order, and
+-- runs.
+use Rattle.std.proofs.Common.{rules, ◌≡◌, ◌==◌, ℕ, Bool, true, false, ◌&&◌, ◌||◌, List, [], ◌∷◌, Ok}
+use Rattle.std.proofs.Common.{◌++◌, Err, Some, None, refl, sym, subst, ◌∙◌, arith, eq-eqb}
 use Rattle.flume_core.specs.declared.error.RecvTimeoutError.TheVariants.{Timeout}
+use Rattle.flume_calls.specs.declared.calls.receive.RecvNext.TheVariants as receive
 use Rattle.flume_calls.specs.declared.calls.send.SendNext.TheVariants.{Done}
 use Rattle.flume_model.specs.declared.step.Kind.TheVariants.{Plain}
 use Rattle.flume_model.specs.declared.step.Step.TheVariants.{Recv, Withdraw}
 use Rattle.flume_model.specs.declared.step.Reply.TheVariants.{Parked, Gone}
 use Rattle.flume_party.specs.Interleavings.{Interleaving, End, Left, Right}
 use Rattle.flume_party.proofs.InterleavingLemmas.{interleaved_alone}
-use Rattle.flume_actions.specs.Actions.{IsWhole}
+use Rattle.flume_actions.specs.Actions.{IsPart, IsWhole}
 use Rattle.flume_actions.specs.ReceiveCalls.{Polled, Left as LeftBy}
-use Rattle.flume_actions.specs.Calls.{AndCall, NoCalls, TriesToSend, PollsToReceive}
+use Rattle.flume_actions.specs.Calls.{AreCalls, AndCall, NoCalls, TriesToSend, TriesToReceive}
+use Rattle.flume_actions.specs.Calls.{PollsToReceive}
 use Rattle.flume_laws.specs.Together.{Interleaved, AreEmpty, EachMerged, NoList, AndLists}
 use Rattle.flume_laws.specs.Together.{EachAreCalls, AndParty, NoParty}
 use Rattle.flume_laws.proofs.TakeInLemmas.{one_in_order}
-use Rattle.party_tests.specs.NearMisses.{one_sent, waited_for}
+use Rattle.party_tests.specs.NearMisses.{one_sent, one_got, waited_for}
 
 -- an interleaving begins as one of its lists
 pub begins_so : {xs ys zs : List ℕ} → Interleaving xs ys zs → xs ≡ 1 ∷ 2 ∷ [] → ys ≡ 3 ∷ []
@@ -60,3 +64,36 @@ pub two_calls : EachAreCalls
     ([] ∷ (1 ∷ []) ∷ []) ([] ∷ [] ∷ [])
 two_calls = AndParty (AndCall NoCalls (PollsToReceive {result = Err Timeout}
     (Polled (search rules) (LeftBy (search rules))))) one_call
+
+-- whether the first list has some elements of the second one, in its order
+abbrev pub is_sublist : List ℕ → List ℕ → Bool
+is_sublist [] ys = true
+is_sublist (x ∷ xs) [] = false
+is_sublist (x ∷ xs) (y ∷ ys) = ((x == y) && is_sublist xs ys) || is_sublist (x ∷ xs) ys
+
+skip_one : (y : ℕ) (xs ys : List ℕ) → is_sublist xs ys ≡ true → is_sublist xs (y ∷ ys) ≡ true
+skip_one y [] ys is = refl
+skip_one y (x ∷ xs) ys is = grind (arith, is)
+
+-- if it has
+pub sublist_is_found : {xs rest ys : List ℕ} → Interleaving xs rest ys → is_sublist xs ys ≡ true
+sublist_is_found End = refl
+sublist_is_found (Left {x = x} {xs = xs} {zs = ys} more) =
+    grind (arith, sublist_is_found more, eq-eqb x x refl)
+sublist_is_found (Right {y = y} {xs = xs} {zs = ys} more) =
+    skip_one y xs ys (sublist_is_found more)
+
+-- the call of a party that got a message, and the run in which it did
+pub one_receives : AreCalls one_got [] (1 ∷ [])
+one_receives = AndCall NoCalls (TriesToReceive (receive.Done (Ok 1)) (search rules))
+
+pub got_of_another : (part : IsPart None one_got) × (part.others ≡ one_sent)
+got_of_another = (
+  record {
+    history = one_sent ++ one_got;
+    others = one_sent;
+    among = Right (Left End);
+    run = (([], refl), search rules);
+  },
+  refl,
+)

@@ -1,9 +1,12 @@
 //! Near-misses of the laws of parties: lists that no channel exchanges, and what a law needs. The
 //! functions do nothing.
-ghost use Rattle.std.specs.Prelude.{ℕ, [], ◌∷◌, Some, None};
-ghost use Rattle.flume_actions.specs.Actions.{IsWhole};
+ghost use Rattle.std.specs.Prelude.{◌≡◌, ℕ, [], ◌∷◌, Some, None};
+ghost use Rattle.flume_actions.specs.Actions.{IsPart, IsWhole};
+ghost use Rattle.flume_actions.specs.Calls.{AreCalls};
+ghost use Rattle.flume_laws.specs.Offered.{IsSublist, offered_in};
 ghost use Rattle.flume_laws.specs.Together.{AreExchanged, AreRouted, IsExchangedSoFar};
-ghost use Rattle.party_tests.specs.NearMisses.{one_sent, LawWhen, waited_for, LawWithin};
+ghost use Rattle.party_tests.specs.NearMisses.{one_sent, one_got, three_tried, LawWhen};
+ghost use Rattle.party_tests.specs.NearMisses.{waited_for, LawWithin};
 
 /// Lists that are exchanged, and near-misses of them, which are not.
 pub fn near_misses_are_not_exchanged()
@@ -42,4 +45,20 @@ pub fn what_is_left_is_not_in_front()
 pub fn the_bound_needs_the_number_of_parties()
     ensures one_left { IsWhole (Some 0) waited_for (Some 1) }
     ensures needed { ¬ LawWithin 0 }
+{}
+
+/// What a party can have got of what was offered, and near-misses: of 1, 2 and 3, only 1 and 3 were
+/// taken.
+pub fn near_misses_were_not_offered()
+    ensures all { IsSublist (1 ∷ 3 ∷ []) (offered_in three_tried) }
+    ensures some { IsSublist (3 ∷ []) (offered_in three_tried) }
+    ensures doubled { ¬ IsSublist (1 ∷ 1 ∷ []) (offered_in three_tried) }
+    ensures refused { ¬ IsSublist (2 ∷ []) (offered_in three_tried) }
+    ensures swapped { ¬ IsSublist (3 ∷ 1 ∷ []) (offered_in three_tried) }
+{}
+
+/// A party got a message that another one sent: its calls are whole, and part of a run.
+pub fn a_party_got_what_another_sent()
+    ensures calls { AreCalls one_got [] (1 ∷ []) }
+    ensures part { (part : IsPart None one_got) × (part.others ≡ one_sent) }
 {}
