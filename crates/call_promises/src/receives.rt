@@ -1,7 +1,9 @@
 //! Receives from channels with a trace.
-ghost use Rattle.std.specs.Prelude.{[], option_to_list};
+ghost use Rattle.std.specs.Prelude.{[], ◌++◌, option_to_list};
 ghost use Rattle.flume_deadline.specs.declared.Deadline.{Deadline};
 ghost use Rattle.flume_actions.specs.Calls.{HasCalled, got_by, drained_by};
+ghost use Rattle.flume_actions.specs.Callers.{HasMadeCalls};
+ghost use Rattle.flume_laws.specs.Offered.{WereOffered};
 ghost use Rattle.flume.specs.GateSteps.{Receives};
 
 use flume::error::NoMemory;
@@ -30,6 +32,23 @@ pub fn receive<T: Drop, J: ChannelName, R: Waits>(
     ensures got { HasCalled me.old me.new [] (got_by result) }
 {
     rx.recv(me)
+}
+
+/// Takes the next two messages, waits for each, and confirms. The party made whole calls, which got
+/// what the results have. That was offered in this very channel, in this order, and none of it went
+/// back to its sender, whatever others did there.
+pub fn receive_two<T: Drop, J: ChannelName, R: Waits>(
+    rx: &TracedReceiver<T, R, J>,
+    me: &mut ChannelParty<T, J>,
+) -> (Result<T, RecvError>, Result<T, RecvError>)
+    ensures got { HasMadeCalls me.old me.new [] (got_by result.0 ++ got_by result.1) }
+    ensures offered { WereOffered J.identity.capacity me.new.actions
+        (got_by result.0 ++ got_by result.1) }
+{
+    let first = rx.recv(me);
+    let second = rx.recv(me);
+    rx.confirm(me);
+    (first, second)
 }
 
 /// Takes the next message, and waits up to the deadline. The party made one call, whose steps are

@@ -1,4 +1,5 @@
-//! The laws of what parties did, together: what they sent is what they got, in order.
+//! The laws of what parties did, together: what they sent is what they got, in order. And of one
+//! party alone: what it got was offered.
 #![tactic(auto)]
 
 mod laws;
