@@ -36,7 +36,7 @@ fn take_event<A: Allocator>(
     event: &Event<u64, A>,
 ) -> Result<(), NoMemory> {
     match event {
-        Event::Begins { thread, call } => offer(offers, *thread, call.message())?,
+        Event::Begins { thread, call } => add_offer(offers, *thread, call.message())?,
         Event::Returns { thread, answer } => match answer {
             Answer::Got(message) => receive(offers, *message),
             Answer::Drained(list) => {
@@ -54,7 +54,7 @@ fn take_event<A: Allocator>(
     Ok(())
 }
 
-fn offer<A: Allocator>(
+fn add_offer<A: Allocator>(
     offers: &mut Vec<Offer, A>,
     thread: usize,
     message: Option<u64>,

@@ -14,6 +14,11 @@ use Rattle.flume_concurrent.specs.Calls.{stage_after}
 use Rattle.flume_concurrent_calls.specs.Led.{stage_of_receive, unrefused}
 use Rattle.flume_concurrent_calls.proofs.polled_receives_agree.Goals as goal
 
+-- one or false is that one
+or_false : (b : Bool) → (b || false) ≡ b
+or_false true = refl
+or_false false = refl
+
 module _ {T A : Type 0} where
   tries : (reply : Reply T A) (next : RecvNext T) → after_try_recv reply next
       → (stage_after RecvAsync Begun reply ≡ stage_of_receive next) × (stage_after RecvAsync Tried reply ≡ stage_of_receive next)
@@ -40,10 +45,6 @@ module _ {T A : Type 0} where
   asks t reply.NoTicket next h = ap (λ n. stage_of_receive (unrefused n)) (sym h)
   asks t (reply.NoMemory back) next h = ap (λ n. stage_of_receive (unrefused n)) (sym h)
   asks t _ next h = absurd h
-
-  or_false : (b : Bool) → (b || false) ≡ b
-  or_false true = refl
-  or_false false = refl
 
   leaves_with : (equal : T → T → Bool) (t : ℕ) (reply : Reply T A) (message : T) → after_withdraw reply (Done (Ok message))
       → may_return equal RecvAsync (stage_after RecvAsync (Parked t) reply) Dropped ≡ false
