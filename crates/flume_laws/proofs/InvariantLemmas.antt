@@ -46,12 +46,15 @@ module _ {T A : Type 0} where
         sum_by-append weight got more,
       ))
 
-module _ {T : Type 0} where
-  -- if two numbers change so, and the sums are the same, then the total of both is kept
-  pub total_kept : (weight : T → ℕ) (first first' second second' : ℕ) (sent sent' got got' : List T)
-      → first' + sum_by weight sent ≡ first + sum_by weight got
-      → second' + sum_by weight sent' ≡ second + sum_by weight got'
-      → sum_over_all weight (sent' ∷ sent ∷ []) ≡ sum_over_all weight (got' ∷ got ∷ [])
+  -- if a number of each of two parties changes so, and the sums are the same, the total is kept
+  pub total_kept : {old new old' new' : PartyState (Action T A)} (weight : T → ℕ)
+      (first first' second second' : ℕ)
+      (one : HasMadeCallsWhere old new
+      (λ sent got. first' + sum_by weight sent ≡ first + sum_by weight got))
+      (other : HasMadeCallsWhere old' new'
+      (λ sent got. second' + sum_by weight sent ≡ second + sum_by weight got))
+      → sum_over_all weight (other.sent ∷ one.sent ∷ [])
+      ≡ sum_over_all weight (other.got ∷ one.got ∷ [])
       → first' + second' ≡ first + second
-  total_kept weight first first' second second' sent sent' got got' one other sums =
-      omega (arith, one, other, sums)
+  total_kept weight first first' second second' one other sums =
+      omega (arith, one.so, other.so, sums)

@@ -10,8 +10,7 @@ ghost use Rattle.flume_laws.specs.Invariants.{HasMadeCallsWhere};
 
 use flume::traced::{ChannelName, ChannelParty, TracedReceiver, TracedSender, UnopenedChannel};
 use flume::{RecvError, Runtime, Waits};
-use std::io;
-use std::io::ErrorKind;
+use std::io::{self, ErrorKind};
 use std::marker::Brand;
 use std::thread::join;
 

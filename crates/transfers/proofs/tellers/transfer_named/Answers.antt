@@ -16,8 +16,5 @@ returns g c =
     c.split_off.ensures.rest) c.split_off-2.ensures.rest in
     let all = take_in (take_in none c.split_off.ensures.new left.calls c.merge.ensures.merged)
     c.split_off-2.ensures.new right.calls c.merge-2.ensures.merged in
-    record {
-      kept = total_kept (λ amount. amount) c.args.accounts.0 one.1 c.args.accounts.1 other.1 left.sent
-          right.sent left.got right.got left.so right.so
-          (sums_kept all (emptied c.in-Some-eq0.ensures.whole c.in-Some-eq0.field-0-test) (λ amount. amount));
-    }
+    let whole = emptied c.in-Some-eq0.ensures.whole c.in-Some-eq0.field-0-test in
+    record { kept = total_kept (λ x. x) _ _ _ _ left right (sums_kept all whole (λ x. x)) }
