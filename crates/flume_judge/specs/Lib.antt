@@ -1,4 +1,3 @@
 pub mod Kinds
 pub mod ItemLines
-pub mod Turns
 pub mod CallsText
