@@ -1,5 +1,5 @@
 -- What a receiver gets of two parties and of the one that took them in.
-use Rattle.std.proofs.Common.{◌≡◌, ℕ, true, List, [], ◌∷◌, ◌++◌, Option}
+use Rattle.std.proofs.Common.{◌≡◌, ℕ, List, [], ◌∷◌, ◌++◌, Option, Some}
 use Rattle.flume_party.specs.Interleavings.{Interleaving}
 use Rattle.flume_party.specs.Parties.{PartyState, party_of, Merged}
 use Rattle.flume_actions.specs.Actions.{Action, IsWhole}
