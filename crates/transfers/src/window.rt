@@ -1,7 +1,7 @@
-//! One thread sends until another one stops, and is never further ahead of it than the capacity.
+//! One thread sends until another one stops. In the end it is ahead by the capacity, at most.
 //!
-//! Here messages are left at the end. The law says that they were sent last, and how many there may
-//! be. Meanwhile the sends wait for room, and go on when it is there, or give up after a time.
+//! So messages are left. A law says that they were sent last, and how many there may be. A send
+//! waits for room, and goes on if there is some, or gives up after a time.
 ghost use Rattle.std.specs.Prelude.{◌≡◌, ◌≤◌, ◌++◌, ℕ, List, [], length, Some, IfOk};
 ghost use Rattle.flume_actions.specs.Callers.{HasMadeCalls};
 
