@@ -10,7 +10,7 @@ use Rattle.flume_model.specs.Log.{opens}
 use Rattle.flume_concurrent.specs.declared.call.Answer.{Answer}
 use Rattle.flume_concurrent.specs.declared.event.Event.{Event}
 use Rattle.flume_concurrent.specs.Explanations.{thread_of}
-use Rattle.flume_recording.specs.Recordings.{IsRecordingText}
+use Rattle.flume_judge.specs.Turns.{IsRecordingOf}
 use Rattle.flume_explain.specs.Search.{BreaksAfter}
 use Rattle.flume_judge.specs.CallsText.{AreExplained, PrintsWrongEvent, IsPossible, but_text, line_text, recorded_text}
 
@@ -24,11 +24,24 @@ module _ {A : Type 0} where
       ∙ subst (λ n. take n (take place events ++ drop (place + 1) events) ≡ take place events) size
       (take-append_seam (take place events) (drop (place + 1) events))
 
+  -- the events up to a place, and the one at it
+  next_at : (events : List (Event ℕ A)) (place : ℕ) (event : Event ℕ A) → place < length events → event ≡ get_or events place event
+      → take (place + 1) events ≡ take place events ++ event ∷ []
+  next_at events place event within here =
+      (take_at_read events place event within).1 ∙ ap (λ e. take place events ++ e ∷ []) (sym here)
+
+  -- the events before a place, the one at it, and those behind it
+  pub parts_at : (events : List (Event ℕ A)) (place : ℕ) (event : Event ℕ A) → place < length events
+      → event ≡ get_or events place event → events ≡ take place events ++ event ∷ drop (place + 1) events
+  parts_at events place event within here =
+      sym (take-append-drop (place + 1) events) ∙ ap (λ l. l ++ drop (place + 1) events) (next_at events place event within here)
+      ∙ append_assoc (take place events) (event ∷ []) (drop (place + 1) events)
+
   -- the text names that event, if it was taken out
   pub broken : (input text : List ℕ) (capacity : Option ℕ) (names : List (List ℕ)) (events left : List (Event ℕ A)) (place : ℕ)
       (event : Event ℕ A) (answers : List (Answer ℕ A))
       → BreaksAfter (λ x y. eqb x y) (opens capacity 1) events place
-      → IsRecordingText (lines input) capacity events names
+      → IsRecordingOf (lines input) capacity events names
       → event ≡ get_or events place event
       → left ≡ take place events ++ drop (place + 1) events
       → All (IsPossible capacity (take place left) (thread_of event)) answers
@@ -38,18 +51,15 @@ module _ {A : Type 0} where
       let within = breaks.is_within in
       let before = take place events in
       let size : length before ≡ place = length-take-le place events (omega arith) in
-      let next : take (place + 1) events ≡ before ++ event ∷ [] =
-      (take_at_read events place event within).1 ∙ ap (λ e. before ++ e ∷ []) (sym here) in
-      let all : events ≡ before ++ event ∷ drop (place + 1) events =
-      sym (take-append-drop (place + 1) events) ∙ ap (λ l. l ++ drop (place + 1) events) next
-      ∙ append_assoc before (event ∷ []) (drop (place + 1) events) in
+      let next = next_at events place event within here in
+      let all = parts_at events place event within here in
       record {
         capacity = capacity;
         before = before;
         event = event;
         later = drop (place + 1) events;
         names = names;
-        reads = subst (λ l. IsRecordingText (lines input) capacity l names) all reads;
+        reads = subst (λ l. IsRecordingOf (lines input) capacity l names) all reads;
         explained = breaks.before;
         not_with_next = λ e. breaks.not_with_next (subst (λ l. AreExplained capacity l) (sym next) e);
         answers = answers;

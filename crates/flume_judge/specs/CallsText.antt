@@ -17,6 +17,7 @@ use Rattle.flume_recording.specs.declared.fault.Fault.TheVariants.{NoAnswer}
 use Rattle.flume_recording.specs.Recordings.{IsRecordingText, IsFirstWrongEvent}
 use Rattle.flume_recording.specs.Texts.{answer_text, call_text}
 use Rattle.flume_judge.specs.ItemLines.{item_lines}
+use Rattle.flume_judge.specs.Turns.{IsRecordingOf, IsOutOfTurn}
 
 -- what is printed at a line
 abbrev pub line_text : ℕ → List ℕ → List ℕ
@@ -54,12 +55,12 @@ module _ {A : Type 0} where
   IsPossible capacity before thread answer =
       AreExplained capacity (before ++ Returns thread answer ∷ [])
 
--- each line is right, and the events are explained
+-- each line is right and in turn, and the events are explained
 pub record PrintsCorrect (A : Type 0) (input text : List ℕ) (status : ℕ) : Type 0 where
   pub capacity : Option ℕ
   pub events : List (Event ℕ A)
   pub names : List (List ℕ)
-  pub reads : IsRecordingText (lines input) capacity events names
+  pub reads : IsRecordingOf (lines input) capacity events names
   pub explained : AreExplained capacity events
   pub text_is : text ≡ codes "correct" ++ 10 ∷ []
   pub status_is : status ≡ 0
@@ -72,7 +73,7 @@ pub record PrintsSteps (A : Type 0) (input text : List ℕ) (status : ℕ) : Typ
   pub capacity : Option ℕ
   pub events : List (Event ℕ A)
   pub names : List (List ℕ)
-  pub reads : IsRecordingText (lines input) capacity events names
+  pub reads : IsRecordingOf (lines input) capacity events names
   pub items : List (Item ℕ A)
   pub events_are : events_in items ≡ events
   pub explains : DescribeExplanation (λ x y. x == y) (opens capacity 1) items
@@ -86,7 +87,7 @@ pub record PrintsWrongEvent (A : Type 0) (input text : List ℕ) (status : ℕ) 
   pub event : Event ℕ A
   pub later : List (Event ℕ A)
   pub names : List (List ℕ)
-  pub reads : IsRecordingText (lines input) capacity (before ++ event ∷ later) names
+  pub reads : IsRecordingOf (lines input) capacity (before ++ event ∷ later) names
   pub explained : AreExplained capacity before
   pub not_with_next : ¬ AreExplained capacity (before ++ event ∷ [])
   pub answers : List (Answer ℕ A)
@@ -100,7 +101,7 @@ pub record PrintsWrongLater (A : Type 0) (input text : List ℕ) (status : ℕ) 
   pub capacity : Option ℕ
   pub events : List (Event ℕ A)
   pub names : List (List ℕ)
-  pub reads : IsRecordingText (lines input) capacity events names
+  pub reads : IsRecordingOf (lines input) capacity events names
   pub count : ℕ
   pub explained : AreExplained capacity (take count events)
   pub not_all : ¬ AreExplained capacity events
@@ -112,7 +113,7 @@ pub record PrintsUndecided (A : Type 0) (input text : List ℕ) (status : ℕ) :
   pub capacity : Option ℕ
   pub events : List (Event ℕ A)
   pub names : List (List ℕ)
-  pub reads : IsRecordingText (lines input) capacity events names
+  pub reads : IsRecordingOf (lines input) capacity events names
   pub count : ℕ
   pub explained : AreExplained capacity (take count events)
   pub text_is : text ≡ line_text (count + 2) (codes "not decided")
@@ -126,9 +127,21 @@ pub record PrintsFault (A : Type 0) (input text : List ℕ) (status : ℕ) : Typ
   pub text_is : text ≡ line_text line (fault_text fault)
   pub status_is : status ≡ 2
 
+-- each line is right: the text names the first one that is out of turn
+pub record PrintsOutOfTurn (A : Type 0) (input text : List ℕ) (status : ℕ) : Type 0 where
+  pub capacity : Option ℕ
+  pub events : List (Event ℕ A)
+  pub names : List (List ℕ)
+  pub reads : IsRecordingText (lines input) capacity events names
+  pub place : ℕ
+  pub wrong : IsOutOfTurn events place
+  pub text_is : text ≡ line_text (place + 2) (codes "out of turn")
+  pub status_is : status ≡ 2
+
 -- this text, with the steps if `with_steps`, and this status are the result for these bytes
 abbrev pub JudgesCalls : Type 0 → Bool → List ℕ → List ℕ → ℕ → Type 0
 JudgesCalls A with_steps input text status =
     MatchBool with_steps (PrintsSteps A input text status) (PrintsCorrect A input text status)
     ⊎ (PrintsWrongEvent A input text status ⊎ (PrintsUndecided A input text status
-    ⊎ (PrintsFault A input text status ⊎ PrintsWrongLater A input text status)))
+    ⊎ (PrintsFault A input text status ⊎ (PrintsOutOfTurn A input text status
+    ⊎ PrintsWrongLater A input text status))))

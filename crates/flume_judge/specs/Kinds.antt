@@ -1,5 +1,6 @@
 -- Whether an input is a recording.
-use Rattle.std.specs.Prelude.{◌≡◌, ◌==◌, ℕ, if◌then◌else◌, List, [], ◌∷◌, ◌++◌}
+use Rattle.std.specs.Prelude.{◌==◌, ◌||◌, ℕ, Bool, false, IsTrue, if◌then◌else◌, List, [], ◌∷◌}
+use Rattle.std.specs.List.{list_any}
 use Rattle.std.specs.Str.Lines.{lines}
 
 -- what is before the first space
@@ -7,15 +8,16 @@ abbrev pub first_word : List ℕ → List ℕ
 first_word [] = []
 first_word (x ∷ line) = if x == 32 then [] else x ∷ first_word line
 
--- the word ends in a colon
-abbrev pub EndsInColon : List ℕ → Type 0
-EndsInColon word = (name : List ℕ) × (word ≡ name ++ 58 ∷ [])
+-- whether some line's first word has a colon
+abbrev pub has_colon : List (List ℕ) → Bool
+has_colon [] = false
+has_colon (line ∷ lines) = list_any (λ x. x == 58) (first_word line) || has_colon lines
 
--- the second line's first word ends in a colon
-abbrev pub HasColon : List (List ℕ) → Type 0
-HasColon (first ∷ second ∷ rest) = EndsInColon (first_word second)
-HasColon _ = ⊥
+-- whether some line behind the first one has such a word
+abbrev pub has_colon_behind : List (List ℕ) → Bool
+has_colon_behind [] = false
+has_colon_behind (first ∷ rest) = has_colon rest
 
 -- the bytes are read as a recording of calls, and else as a history of steps
 abbrev pub IsRecording : List ℕ → Type 0
-IsRecording input = HasColon (lines input)
+IsRecording input = IsTrue (has_colon_behind (lines input))

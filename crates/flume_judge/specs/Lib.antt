@@ -1,3 +1,4 @@
 pub mod Kinds
 pub mod ItemLines
+pub mod Turns
 pub mod CallsText

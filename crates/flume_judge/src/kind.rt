@@ -1,26 +1,30 @@
 //! Tells a recording of calls from a history of steps.
 ghost use Rattle.std.specs.Prelude.{IsTrue, ◌≡◌, ◌↔◌};
-ghost use Rattle.flume_judge.specs.Kinds.{EndsInColon, IsRecording, first_word as word_of};
+ghost use Rattle.std.specs.Str.Lines.{lines};
+ghost use Rattle.flume_judge.specs.Kinds.{IsRecording, first_word as word_of, has_colon as colon_in};
 
 use flume_script::reading::{next_line, part_at};
 
-// A recording's second line is an event, which begins a call.
+// A call begins by a word with a colon, and no step has one.
 pub(crate) fn is_recording(input: &[u8]) -> bool
     ensures value { IsTrue result ↔ IsRecording input.now }
 {
-    let Some((_, rest)) = next_line(input) else {
-        return false;
-    };
-    let Some((second, _)) = next_line(rest) else {
-        return false;
-    };
-    ends_in_colon(first_word(second))
+    match next_line(input) {
+        Some((_, rest)) => has_colon(rest),
+        None => false,
+    }
 }
 
-fn ends_in_colon(word: &[u8]) -> bool
-    ensures value { IsTrue result ↔ EndsInColon word.now }
+fn has_colon(mut rest: &[u8]) -> bool
+    ensures value { result ≡ colon_in (lines rest.now) }
 {
-    matches!(word, [.., b':'])
+    while let Some((line, later)) = next_line(rest) {
+        if first_word(line).contains(&b':') {
+            return true;
+        }
+        rest = later;
+    }
+    false
 }
 
 fn first_word(line: &[u8]) -> &[u8]

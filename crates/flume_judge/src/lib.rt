@@ -13,6 +13,7 @@ mod possible;
 mod reasons;
 mod recording;
 mod texts;
+mod turns;
 
 use flume_core::error::NoMemory;
 use flume_history::script::check_script;

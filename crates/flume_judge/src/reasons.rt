@@ -32,6 +32,7 @@ pub(crate) fn explain_input<A: Allocator + Copy>(
             write_shown(&mut text, behind(line, b" -> "))?;
             text.push_str("' is no answer")?;
         }
+        b"out of turn\n" => explain_turn(&mut text, line)?,
         _ => text.push_str(
             "it is neither a thread's name, ': ' and a call, nor a name, ' -> ' and an answer",
         )?,
@@ -71,6 +72,15 @@ fn explain_pair<A: Allocator>(text: &mut String<A>, line: &[u8]) -> Result<(), N
         Some((step, _)) => write_line_fault(text, step, step_fault(step)),
         None => Ok(text.push_str("there is no ' -> ' between a step and its answer")?),
     }
+}
+
+fn explain_turn<A: Allocator>(text: &mut String<A>, line: &[u8]) -> Result<(), NoMemory> {
+    text.push_str(if parts_at(line, b" -> ").is_some() {
+        "its thread has no call open, so none returns"
+    } else {
+        "its thread has a call open, which has to return first"
+    })?;
+    Ok(())
 }
 
 fn explain_call<A: Allocator + Copy>(

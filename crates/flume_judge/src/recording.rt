@@ -11,10 +11,13 @@ ghost use Rattle.flume_model.specs.Log.{opens};
 ghost use Rattle.flume_judge.specs.CallsText.{AreExplained, IsPossible, JudgesCalls};
 ghost use Rattle.flume_judge.specs.CallsText.{PrintsWrongEvent};
 ghost use Rattle.flume_judge.specs.CallsText.{PrintsUndecided, PrintsFault, PrintsSteps};
+ghost use Rattle.flume_judge.specs.CallsText.{PrintsOutOfTurn};
+ghost use Rattle.flume_judge.specs.Turns.{IsOutOfTurn, IsRecordingOf};
 
 use crate::items::write_items;
 use crate::possible::answers_there;
 use crate::texts::{write_break, write_fault, write_line};
+use crate::turns::out_of_turn;
 use flume_concurrent::call::Answer;
 use flume_concurrent::event::Event;
 use flume_core::error::NoMemory;
@@ -42,7 +45,7 @@ pub(crate) fn judge_recording<A: Allocator + Copy>(
             capacity,
             events,
             names,
-        } => judge(
+        } => judge_in_turn(
             alloc,
             with_steps,
             first_line(input),
@@ -76,7 +79,18 @@ fn refuse<A: Allocator + Copy>(
     Ok(ScriptOutput { text, status: 2 })
 }
 
-fn judge<A: Allocator + Copy>(
+fn refuse_turn<A: Allocator + Copy>(alloc: A, place: usize) -> Result<ScriptOutput<A>, NoMemory>
+    requires room { place + 2 < 2 ^ 64 }
+    ensures refuses { IfOk result (λ output. (input : List ℕ) (capacity : Option ℕ)
+        (events : List (Event ℕ A)) (names : List (List ℕ))
+        → IsRecordingText (lines input) capacity events names → IsOutOfTurn events place
+        → PrintsOutOfTurn A input output.text.items output.status) }
+{
+    let text = write_line(alloc, place + 2, "out of turn")?;
+    Ok(ScriptOutput { text, status: 2 })
+}
+
+fn judge_in_turn<A: Allocator + Copy>(
     alloc: A,
     with_steps: bool,
     first: &[u8],
@@ -87,6 +101,25 @@ fn judge<A: Allocator + Copy>(
     ensures judges { IfOk result (λ output. (input : List ℕ) (rest : List (List ℕ))
         → lines input ≡ first.now ∷ rest
         → IsRecordingText (lines input) capacity events.items (names_of names.now)
+        → JudgesCalls A with_steps input output.text.items output.status) }
+{
+    match out_of_turn(alloc, &events)? {
+        Some(place) => refuse_turn(alloc, place),
+        None => judge(alloc, with_steps, first, capacity, events, names),
+    }
+}
+
+fn judge<A: Allocator + Copy>(
+    alloc: A,
+    with_steps: bool,
+    first: &[u8],
+    capacity: Option<usize>,
+    events: Vec<Event<u64, A>, A>,
+    names: &[&[u8]],
+) -> Result<ScriptOutput<A>, NoMemory>
+    ensures judges { IfOk result (λ output. (input : List ℕ) (rest : List (List ℕ))
+        → lines input ≡ first.now ∷ rest
+        → IsRecordingOf (lines input) capacity events.items (names_of names.now)
         → JudgesCalls A with_steps input output.text.items output.status) }
 {
     match check_calls(alloc, capacity, &events, LIMIT) {
@@ -117,7 +150,7 @@ fn show<A: Allocator + Copy>(
     requires room { length events.now + 2 < 2 ^ 64 }
     ensures with_steps { IfOk result (λ output. (input : List ℕ) (rest : List (List ℕ))
         → lines input ≡ first.now ∷ rest
-        → IsRecordingText (lines input) capacity events.now (names_of names.now)
+        → IsRecordingOf (lines input) capacity events.now (names_of names.now)
         → PrintsSteps A input output.text.items output.status
         ⊎ PrintsUndecided A input output.text.items output.status) }
 {
@@ -136,7 +169,7 @@ fn give_up<A: Allocator + Copy>(alloc: A, place: usize) -> Result<ScriptOutput<A
     requires room { place + 2 < 2 ^ 64 }
     ensures gives_up { IfOk result (λ output. (input : List ℕ) (capacity : Option ℕ)
         (events : List (Event ℕ A)) (names : List (List ℕ))
-        → IsRecordingText (lines input) capacity events names
+        → IsRecordingOf (lines input) capacity events names
         → AreExplained capacity (take place events)
         → PrintsUndecided A input output.text.items output.status) }
 {
@@ -152,7 +185,7 @@ fn break_off<A: Allocator + Copy>(
 ) -> Result<ScriptOutput<A>, NoMemory>
     requires breaks { BreaksAfter (λ x y. x == y) (opens capacity 1) events.items place }
     ensures breaks { IfOk result (λ output. (input : List ℕ) (names : List (List ℕ))
-        → IsRecordingText (lines input) capacity events.items names
+        → IsRecordingOf (lines input) capacity events.items names
         → PrintsWrongEvent A input output.text.items output.status) }
 {
     let event = events.remove(place);

@@ -6,7 +6,8 @@ use Rattle.std.proofs.lemmas.Result.{IfOk-weaker}
 use Rattle.flume_model.specs.Log.{opens}
 use Rattle.flume_explain.specs.Search.{BreaksAfter}
 use Rattle.flume_concurrent.specs.declared.event.Event.{Event}
-use Rattle.flume_recording.specs.Recordings.{IsRecordingText, names_of}
+use Rattle.flume_recording.specs.Recordings.{names_of}
+use Rattle.flume_judge.specs.Turns.{IsRecordingOf}
 use Rattle.flume_judge.specs.CallsText.{AreExplained, PrintsWrongEvent, PrintsCorrect, JudgesCalls, PrintsUndecided, PrintsSteps}
 use Rattle.flume_judge.proofs.recording.judge.Goals as goal
 
@@ -23,15 +24,15 @@ returns-in-Explained g c =
     record {
       judges = IfOk-weaker c.show.result
           (λ output. (input : List ℕ) (rest : List (List ℕ)) → lines input ≡ c.args.first.now ∷ rest
-          → IsRecordingText (lines input) c.args.capacity c.deref-in-Explained.result.now (names_of c.args.names.now)
+          → IsRecordingOf (lines input) c.args.capacity c.deref-in-Explained.result.now (names_of c.args.names.now)
           → PrintsSteps A input output.text.items output.status ⊎ PrintsUndecided A input output.text.items output.status)
           (λ output. (input : List ℕ) (rest : List (List ℕ)) → lines input ≡ c.args.first.now ∷ rest
-          → IsRecordingText (lines input) c.args.capacity c.args.events.items (names_of c.args.names.now)
+          → IsRecordingOf (lines input) c.args.capacity c.args.events.items (names_of c.args.names.now)
           → JudgesCalls A c.args.with_steps input output.text.items output.status)
           (λ output shown input rest begins reads. shown_or_open A input output.text.items output.status c.args.with_steps
           c.if-with_steps.true
           (shown input rest begins
-          (subst (λ l. IsRecordingText (lines input) c.args.capacity l (names_of c.args.names.now))
+          (subst (λ l. IsRecordingOf (lines input) c.args.capacity l (names_of c.args.names.now))
           (sym c.deref-in-Explained.ensures.value) reads)))
           c.show.ensures.with_steps;
     }
@@ -46,10 +47,10 @@ pub returns-in-Breaks : goal.returns-in-Breaks
 returns-in-Breaks g c = record {
   judges = IfOk-weaker c.break_off.result
       (λ output. (input : List ℕ) (names : List (List ℕ))
-      → IsRecordingText (lines input) c.args.capacity c.args.events.items names
+      → IsRecordingOf (lines input) c.args.capacity c.args.events.items names
       → PrintsWrongEvent g.row.A.Denot input output.text.items output.status)
       (λ output. (input : List ℕ) (rest : List (List ℕ)) → lines input ≡ c.args.first.now ∷ rest
-      → IsRecordingText (lines input) c.args.capacity c.args.events.items (names_of c.args.names.now)
+      → IsRecordingOf (lines input) c.args.capacity c.args.events.items (names_of c.args.names.now)
       → JudgesCalls g.row.A.Denot c.args.with_steps input output.text.items output.status)
       (λ output breaks input rest begins reads. inr (inl (breaks input (names_of c.args.names.now) reads)))
       c.break_off.ensures.breaks;
@@ -60,7 +61,7 @@ returns-in-Unexplained g c =
     let at = c.in-Unexplained.ensures.unexplained c.in-Unexplained.place refl in
     record {
       judges = λ input rest begins reads.
-          inr (inr (inr (inr (record {
+          inr (inr (inr (inr (inr (record {
             capacity = c.args.capacity;
             events = c.args.events.items;
             names = names_of c.args.names.now;
@@ -70,17 +71,17 @@ returns-in-Unexplained g c =
             not_all = λ all. at.not_all (subst (λ l. AreExplained c.args.capacity l) (sym c.deref.ensures.value) all);
             text_is = c.in_ok-text-in-Unexplained.ensures.value;
             status_is = refl;
-          }))));
+          })))));
     }
 
 pub returns : goal.returns
 returns g c = record {
   judges = IfOk-weaker c.give_up.result
       (λ output. (input : List ℕ) (capacity : Option ℕ) (events : List (Event ℕ g.row.A.Denot)) (names : List (List ℕ))
-      → IsRecordingText (lines input) capacity events names → AreExplained capacity (take c.in-GaveUp.place events)
+      → IsRecordingOf (lines input) capacity events names → AreExplained capacity (take c.in-GaveUp.place events)
       → PrintsUndecided g.row.A.Denot input output.text.items output.status)
       (λ output. (input : List ℕ) (rest : List (List ℕ)) → lines input ≡ c.args.first.now ∷ rest
-      → IsRecordingText (lines input) c.args.capacity c.args.events.items (names_of c.args.names.now)
+      → IsRecordingOf (lines input) c.args.capacity c.args.events.items (names_of c.args.names.now)
       → JudgesCalls g.row.A.Denot c.args.with_steps input output.text.items output.status)
       (λ output leaves input rest begins reads.
       inr (inr (inl (leaves input c.args.capacity c.args.events.items (names_of c.args.names.now) reads

@@ -15,10 +15,10 @@ returns-in-Right g c =
     let named = subst (λ names. IsRecordingText (lines input) c.in-Right.capacity c.in-Right.events.items (names_of names))
     (sym c.deref.ensures.value) reads in
     record {
-      judges = IfOk-weaker c.judge.result
+      judges = IfOk-weaker c.judge_in_turn.result
           (λ output. (input : List ℕ) (rest : List (List ℕ)) → lines input ≡ c.first_line.result.now ∷ rest
           → IsRecordingText (lines input) c.in-Right.capacity c.in-Right.events.items (names_of c.deref.result.now)
           → JudgesCalls g.row.A.Denot c.args.with_steps input output.text.items output.status)
           (λ output. JudgesCalls g.row.A.Denot c.args.with_steps input output.text.items output.status)
-          (λ output judges. judges input reads.rest begins named) c.judge.ensures.judges;
+          (λ output judges. judges input reads.rest begins named) c.judge_in_turn.ensures.judges;
     }

@@ -3,7 +3,8 @@ use Rattle.std.proofs.Common.{inl, inr, ℕ, List, ◌≡◌, ◌∷◌, ◌++�
 use Rattle.std.specs.Str.Lines.{lines}
 use Rattle.std.proofs.lemmas.Result.{IfOk-weaker}
 use Rattle.flume_concurrent.specs.declared.event.Event.{Event}
-use Rattle.flume_recording.specs.Recordings.{IsRecordingText, names_of}
+use Rattle.flume_recording.specs.Recordings.{names_of}
+use Rattle.flume_judge.specs.Turns.{IsRecordingOf}
 use Rattle.flume_judge.specs.CallsText.{AreExplained, PrintsUndecided, PrintsSteps}
 use Rattle.flume_judge.specs.ItemLines.{item_lines}
 use Rattle.flume_judge.proofs.recording.show.Goals as goal
@@ -40,10 +41,10 @@ pub returns-in-GaveUp : goal.returns-in-GaveUp
 returns-in-GaveUp g c = record {
   with_steps = IfOk-weaker c.give_up.result
       (λ output. (input : List ℕ) (capacity : _) (events : List (Event ℕ g.row.A.Denot)) (names : List (List ℕ))
-      → IsRecordingText (lines input) capacity events names → AreExplained capacity (take c.in-GaveUp.place events)
+      → IsRecordingOf (lines input) capacity events names → AreExplained capacity (take c.in-GaveUp.place events)
       → PrintsUndecided g.row.A.Denot input output.text.items output.status)
       (λ output. (input : List ℕ) (rest : List (List ℕ)) → lines input ≡ c.args.first.now ∷ rest
-      → IsRecordingText (lines input) c.args.capacity c.args.events.now (names_of c.args.names.now)
+      → IsRecordingOf (lines input) c.args.capacity c.args.events.now (names_of c.args.names.now)
       → PrintsSteps g.row.A.Denot input output.text.items output.status ⊎ PrintsUndecided g.row.A.Denot input output.text.items
       output.status)
       (λ output leaves input rest begins reads. inr (leaves input c.args.capacity c.args.events.now (names_of c.args.names.now) reads
