@@ -24,10 +24,11 @@ pub(crate) fn out_of_turn<A: Allocator + Copy>(
 {
     let mut calls = BTreeMap::new(alloc);
     for place in 0..events.len() {
-        if !is_in_turn(&calls, &events[place]) {
+        let event = &events[place];
+        if !is_in_turn(&calls, event) {
             return Ok(Some(place));
         }
-        if !take_event(&mut calls, &events[place]) {
+        if !take_event(&mut calls, event) {
             return Err(NoMemory);
         }
     }

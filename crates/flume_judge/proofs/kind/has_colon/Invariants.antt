@@ -5,7 +5,7 @@ use Rattle.flume_judge.proofs.kind.has_colon.Given as goal
 
 -- no word so far has a colon
 abbrev pub invariant-loop-line : goal.invariant-loop-line
-invariant-loop-line g l = has_colon (lines l.initial.rest) ≡ has_colon (lines l.rest)
+invariant-loop-line l = has_colon (lines l.initial.rest) ≡ has_colon (lines l.rest)
 
 abbrev pub decreases-loop-line : goal.decreases-loop-line
-decreases-loop-line g l = length l.rest
+decreases-loop-line l = length l.rest
