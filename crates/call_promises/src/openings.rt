@@ -1,5 +1,6 @@
 //! Channels that are opened, and parties that are split.
-ghost use Rattle.std.specs.Prelude.{◌≡◌, IfOk, Some};
+ghost use Rattle.std.specs.Prelude.{◌≡◌, [], IfOk, Some};
+ghost use Rattle.flume_party.specs.Parties.{party_of};
 ghost use Rattle.call_promises.specs.Openings.{HasOffered};
 
 use flume::error::NoMemory;
@@ -8,11 +9,12 @@ use flume::{Builder, TrySendError, Waits};
 use std::alloc::Allocator;
 use std::marker::Brand;
 
-/// Splits a party of two parts into two parties of one part each.
+/// Splits a party of two parts into two parties of one part each. The first one keeps its actions.
 pub fn split<T, J: ChannelName>(me: &mut ChannelParty<T, J>) -> ChannelParty<T, J>
     requires two { me.old.parts ≡ 2 }
     ensures one { me.new.parts ≡ 1 }
-    ensures other { result.parts ≡ 1 }
+    ensures kept { me.new.actions ≡ me.old.actions }
+    ensures other { result ≡ party_of 1 [] }
 {
     me.split_off(1)
 }

@@ -9,7 +9,8 @@ use std::alloc::Allocator;
 
 #[derive(Drop)]
 pub(crate) struct Task {
-    // Of no bytes. Not the channel's: a contract sees of an end its number alone.
+    // It has no bytes. The channel has none for its tasks, since a contract sees only the number of
+    // an end.
     source: Source,
 }
 

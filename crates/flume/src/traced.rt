@@ -2,8 +2,8 @@
 //!
 //! Each call takes a *party*, `me`, which knows its own actions and has no bytes. A program splits
 //! off a party for each thread, and merges them again. Who has all parts knows by `settle` that its
-//! actions are all that sent or received there. If no message is left, then
-//! `what_was_sent_is_what_was_got` of `flume_laws` says: what its threads sent is what they received.
+//! actions are all that sent or received there. If no message is left, then what its threads sent is
+//! what they received: `what_was_sent_is_what_was_got` of `flume_laws` says so.
 //! ```
 //! let channel = UnopenedChannel::bounded(4, 2);
 //! let (tx, rx, mut me) = flume::on(rt).traced::<u64, Brand>(channel)?;
@@ -14,8 +14,8 @@
 //! assert_eq!(rt; rx.settle(&mut me), Some(0));
 //! ```
 //! What a call does is one function, of these ends and of the others. Iterators, futures, sinks,
-//! streams and the arms of a `Selector` own their party, and give it back. Clones, drops and queries
-//! take no party.
+//! streams and the arms of a `Selector` own their party, and give it back. Clones, drops and
+//! queries take no party.
 ghost use Rattle.std.specs.Prelude.{◌≡◌, ◌≢◌, ◌<◌, [], IfOk, Err};
 ghost use Rattle.flume_model.specs.declared.step.Step.TheVariants.{TrySend, TryRecv, Drain};
 ghost use Rattle.flume_model.specs.declared.step.Step.TheVariants.{SetCapacity};
@@ -247,9 +247,9 @@ impl<T: Drop, R: Waits, A: Allocator + Copy, J: ChannelName> Receiver<T, R, A, T
     }
 
     /// For whoever has all parts. It changes nothing, and answers how many messages are queued or
-    /// blocked; `None` if no end lives. Its clause says that the actions of `me` are all that sent or
-    /// received on this channel, or set its capacity, since it was opened, and that each reply was
-    /// the abstract channel's.
+    /// blocked; `None` if no end lives, or if there are more than a `usize` can count. Its clause
+    /// says that the actions of `me` are all that sent or received on this channel, or set its
+    /// capacity, since it was opened, and that each reply was the abstract channel's.
     pub fn settle(&self, me: &mut ChannelParty<T, J, A>) -> Option<usize>
         requires whole { me.old.parts ≡ J.identity.parts }
         ensures party { me.new ≡ me.old }

@@ -1,6 +1,6 @@
-//! Who keeps what is done to a channel. Under the lock, beside the channel, lies a keeper: `NoTrace`
-//! keeps nothing, and a `Traced` all that was done to this very channel, and by which party. What is
-//! kept exists in proofs only: neither has bytes.
+//! Who keeps what is done to a channel. Under the lock, beside the channel, lies a keeper:
+//! `NoTrace` keeps nothing, and a `Traced` all that was done to this very channel, and by which
+//! party. What is kept exists in proofs only: neither has bytes.
 #![tactic(auto)]
 
 mod keeper;

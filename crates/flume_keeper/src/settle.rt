@@ -16,8 +16,9 @@ impl<T: Drop, S: Drop, A: Allocator + Copy, J: ChannelName> Kept<T, S, A, Traced
         party.audit(&mut self.keeper.trace);
     }
 
-    /// Changes nothing. How many messages are queued or blocked; `None` if no end lives. Its clause
-    /// says that the party, which has all parts, made all steps that moved a message.
+    /// Changes nothing. How many messages are queued or blocked; `None` if no end lives, or if
+    /// there are more than a `usize` can count. Its clause says that the party, which has all parts,
+    /// made all steps that moved a message.
     pub fn settle(&mut self, party: &mut ChannelParty<T, J, A>) -> Option<usize>
         requires whole { party.old.parts ≡ J.identity.parts }
         ensures party { party.new ≡ party.old }

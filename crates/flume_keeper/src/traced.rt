@@ -12,8 +12,8 @@ use std::alloc::{Allocator, Global};
 use std::marker::{Brand, Model, PhantomData};
 use std::sync::ledger::Ledger;
 
-/// Which channel it is, among those of a program. A function over any `J: ChannelName` is called with
-/// `Brand`, and the caller's proof picks the identity of the `UnopenedChannel` that it passes.
+/// Which channel it is, among those of a program. A function over any `J: ChannelName` is called
+/// with `Brand`, and the caller's proof picks the identity of the `UnopenedChannel` that it passes.
 pub trait ChannelName {
     ghost use Rattle.flume_keeper.specs.Identities.{ChannelIdentity};
 

@@ -18,8 +18,8 @@ use futures::task::{Context, Poll};
 use std::alloc::{Allocator, Global};
 use std::snapshot::Snapshot;
 
-/// A sender with a trace, as a sink that owns its party. A message that it takes is sent by the next
-/// polls. Dropped as it waits, it takes its message back and drops it, and the party is lost.
+/// A sender with a trace, as a sink that owns its party. A message that it takes is sent by the
+/// next polls. Dropped as it waits, it takes its message back and drops it, and the party is lost.
 pub type TracedSendSink<'a, T, R, J, A = Global> = PartySendSink<'a, T, R, A, Traced<T, A, J>>;
 
 /// A `TracedSendSink`, of any keeper.
@@ -148,7 +148,8 @@ impl<T: Drop, R: Waits, A: Allocator + Copy, J: ChannelName> Sink<T>
 
     fn poll_ready(&mut self, cx: &mut Context<'_>) -> Poll<Result<(), SendError<T>>>
         requires can_poll { IsSomeAnd self.old.me (CanSink self.old.start.value self.old.sending) }
-        ensures ready { IfReady result (λ answer. OnOk answer ((IsSomeAnd self.new.me (CanSink self.new.start.value self.new.sending))
+        ensures ready { IfReady result (λ answer. OnOk answer
+            ((IsSomeAnd self.new.me (CanSink self.new.start.value self.new.sending))
             × (self.new.sending ≡ None))) }
         ensures again { OnPending result
             (IsSomeAnd self.new.me (CanSink self.new.start.value self.new.sending)) }
@@ -171,7 +172,8 @@ impl<T: Drop, R: Waits, A: Allocator + Copy, J: ChannelName> Sink<T>
     fn start_send(&mut self, message: T) -> Result<(), SendError<T>>
         requires ready { IsSomeAnd self.old.me (CanSink self.old.start.value self.old.sending)
             × (self.old.sending ≡ None) }
-        ensures goes { OnOk result (IsSomeAnd self.new.me (CanSink self.new.start.value self.new.sending)) }
+        ensures goes { OnOk result
+            (IsSomeAnd self.new.me (CanSink self.new.start.value self.new.sending)) }
         ensures same { T → ⊤ → ⊤ }
         ensures history { OnOk result ((items : List T) → ⊤ → ⊤) }
         ensures keeps { IsSomeAnd self.new.sending (λ sending.
