@@ -1,6 +1,6 @@
 //! Answers scripts of steps with flume 0.12.0 itself, one step after the other, on one thread.
 //!
-//! `flume_answers FILE` reads a file of the form of `crates/flume_replay/data/scripts.txt`: lines
+//! `flume_answers FILE` reads a file of the form of `crates/test_replay/data/scripts.txt`: lines
 //! before the first block, and then blocks of a line `= number`, the script, a line `-`, and
 //! replies. It prints the file with flume's replies. README.md says which steps no call of flume
 //! stands for.

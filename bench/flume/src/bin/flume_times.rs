@@ -1,5 +1,5 @@
 //! Times flume 0.12.0 in one shape, and prints nanoseconds a message. It is called as
-//! `crates/channel_bench` is, so that `bench/compare` can let the two take turns.
+//! `crates/bench_channel` is, so that `bench/compare` can let the two take turns.
 
 #[path = "../shapes.rs"]
 mod shapes;

@@ -1,5 +1,5 @@
 //! Four workers share the jobs of one channel, and send their answers into another: the program
-//! crates/worker_pool as one writes it over flume itself. It prints the same lines.
+//! crates/example_worker_pool as one writes it over flume itself. It prints the same lines.
 use flume::{Receiver, Sender};
 use std::thread;
 

@@ -1,5 +1,5 @@
 //! Runs threads on a channel of flume 0.12.0 or of crossbeam-channel, and prints what they recorded
-//! of their calls, as text of `crates/flume_recording`.
+//! of their calls, as text of `crates/judge_recordings`.
 
 mod draw;
 mod ends;

@@ -1,0 +1,6 @@
+-- The step was made.
+use Rattle.example_proved_callers.proofs.TurnLemmas.{made_by}
+use Rattle.example_proved_callers.proofs.gates.LocalGateSendGate.park.Goals as goal
+
+pub returns-clause-does : goal.returns-clause-does
+returns-clause-does g c = made_by c.make.ensures.call

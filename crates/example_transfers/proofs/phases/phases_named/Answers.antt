@@ -1,0 +1,23 @@
+use Rattle.std.proofs.Common.{rules, []}
+use Rattle.flume_actions.specs.Callers.{HasMadeCalls}
+use Rattle.flume_laws.proofs.TakeInLemmas.{none_taken_in, split_off, emptied}
+use Rattle.example_transfers.specs.Phases.{HasSentInPhases}
+use Rattle.example_transfers.proofs.BehindLemmas.{third_behind}
+use Rattle.example_transfers.proofs.phases.phases_named.Goals as goal
+
+pub returns : goal.returns
+returns g c =
+    let first = c.split_off.ensures in
+    let second = c.split_off-2.ensures in
+    let receiver = c.split_off-receiver.ensures in
+    let sent : HasSentInPhases c.split_off-receiver.new.self c.in_ok-all.all
+    (c.split_off.result, c.split_off-2.result) c.args.first.now c.args.second.now c.args.third.now =
+    search rules in
+    let got : HasMadeCalls c.split_off-receiver.result c.in_ok-got.got.me []
+    c.in_ok-got.got.items.items = search rules in
+    let none = split_off (split_off (split_off (none_taken_in c.in_ok-tx.ensures.party) first.rest)
+    second.rest) receiver.rest in
+    record {
+      phases = third_behind none first.new second.new sent receiver.new got c.merge.ensures.merged
+          (emptied c.in-Some-eq0.ensures.whole c.in-Some-eq0.field-0-test);
+    }

@@ -1,0 +1,19 @@
+use Rattle.std.proofs.Common.{rules, [], ap, sym, ◌∙◌}
+use Rattle.flume_actions.specs.Callers.{HasMadeCalls}
+use Rattle.flume_laws.proofs.TakeInLemmas.{none_taken_in, split_off}
+use Rattle.example_transfers.proofs.AheadLemmas.{at_most_ahead}
+use Rattle.example_transfers.proofs.window.window_named.Goals as goal
+
+pub returns-clause-window : goal.returns-clause-window
+returns-clause-window g c =
+    let sender = c.split_off-sender.ensures in
+    let receiver = c.split_off-receiver.ensures in
+    let sent : HasMadeCalls c.split_off-sender.result c.in_ok-sent.field-0.0
+    c.in_ok-sent.field-0.1.items [] = search rules in
+    let got : HasMadeCalls c.split_off-receiver.result c.in_ok-receiver.field-0.0 []
+    c.in_ok-receiver.field-0.1.items = search rules in
+    let none = split_off (split_off (none_taken_in c.in_ok-tx.ensures.party) sender.rest)
+    receiver.rest in
+    let capacity = sym (ap (λ channel. channel.capacity) c.requires.named) ∙ c.requires.bounded in
+    at_most_ahead none sender.new sent c.merge.ensures.merged receiver.new got
+    c.merge-2.ensures.merged c.in-Some.ensures.whole capacity c.requires.capacity

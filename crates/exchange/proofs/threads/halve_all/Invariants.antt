@@ -1,6 +1,0 @@
-use Rattle.exchange.specs.Halving.{HasHalved}
-use Rattle.exchange.proofs.threads.halve_all.Given as goal
-
--- what was received was halved
-abbrev pub invariant-loop : goal.invariant-loop
-invariant-loop g l = HasHalved l.fn.halver.reader l.reader l.fn.halver.writer l.writer

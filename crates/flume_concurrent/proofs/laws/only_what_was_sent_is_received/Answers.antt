@@ -1,6 +1,0 @@
--- What is received was handed out, and so it was offered.
-use Rattle.flume_concurrent.proofs.UnsentLemmas.{unsent}
-use Rattle.flume_concurrent.proofs.laws.only_what_was_sent_is_received.Goals as goal
-
-pub returns : goal.returns
-returns g c = record { sent = unsent g.T.PartialEq.eq }

@@ -1,6 +1,0 @@
--- Each step waits for an event of its thread.
-use Rattle.flume_concurrent.proofs.LateCallLemmas.{explained_late}
-use Rattle.flume_concurrent.proofs.laws.steps_may_come_late.Goals as goal
-
-pub returns : goal.returns
-returns g c = record { late = explained_late g.T.PartialEq.eq }

@@ -1,7 +1,0 @@
--- What `==` says of each of them.
-use Rattle.std.proofs.Common.{sym, ◌∙◌}
-use Rattle.flume_explain.proofs.SameLemmas.{same_receives}
-use Rattle.flume_explain.proofs.dead.are_same_receives.Goals as goal
-
-pub returns : goal.returns
-returns c = record { same = λ is. same_receives c.args.these.now c.args.those.now (sym c.eq.ensures ∙ is) }

@@ -1,9 +1,0 @@
-use Rattle.std.proofs.Common.{vec_len}
-use Rattle.flume_explain.proofs.guess.Guess.next.Given as goal
-
--- each turn takes a frame away
-abbrev pub invariant-loop-frame : goal.invariant-loop-frame
-invariant-loop-frame g l = Unit
-
-abbrev pub decreases-loop-frame : goal.decreases-loop-frame
-decreases-loop-frame g l = vec_len l.self.frames

@@ -1,9 +1,0 @@
-use Rattle.std.proofs.Common.{◌≡◌, drop}
-use Rattle.flume_concurrent.specs.Patterns.{all_returned}
-use Rattle.flume_explain.proofs.patterns.all_returned.Given as goal
-
--- whether all return is so far decided by the events from here on
-abbrev pub invariant-loop-place : goal.invariant-loop-place
-invariant-loop-place g l = record {
-  rest : all_returned (g.T.PartialEq.eq l.message) l.events ≡ all_returned (g.T.PartialEq.eq l.message) (drop l.place l.events);
-}

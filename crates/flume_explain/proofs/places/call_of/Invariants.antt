@@ -1,9 +1,0 @@
-use Rattle.std.proofs.Common.{◌≡◌, drop}
-use Rattle.flume_explain.specs.Configurations.{call_by}
-use Rattle.flume_explain.proofs.places.call_of.Given as goal
-
--- no call before this one is of the thread
-abbrev pub invariant-loop-call : goal.invariant-loop-call
-invariant-loop-call g l = record {
-  own : call_by l.events l.thread l.calls ≡ call_by l.events l.thread (drop l.call-index l.calls);
-}

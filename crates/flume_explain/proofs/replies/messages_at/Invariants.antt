@@ -1,7 +1,0 @@
--- The messages of the places so far.
-use Rattle.std.proofs.Common.{◌≡◌, Some, map, take}
-use Rattle.flume_explain.specs.Configurations.{message_at}
-use Rattle.flume_explain.proofs.replies.messages_at.Given as goal
-
-abbrev pub invariant-loop-place : goal.invariant-loop-place
-invariant-loop-place g l = map (message_at l.events) (take l.place-index l.places) ≡ map Some l.messages.items

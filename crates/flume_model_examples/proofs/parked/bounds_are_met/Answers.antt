@@ -1,5 +1,0 @@
-use Rattle.std.proofs.Common.{refl}
-use Rattle.flume_model_examples.proofs.parked.bounds_are_met.Goals as goal
-
-pub returns-clause-met : goal.returns-clause-met
-returns-clause-met c = record { waits = refl; woken = refl; limit = 0; bounded = refl; queued = refl }

@@ -1,4 +1,0 @@
-use Rattle.history_tests.proofs.books.each_growth.Given as goal
-
-abbrev pub ghosts-play : goal.ghosts-play
-ghosts-play g a = record { name = a.blank.name; parts = a.blank.parts }

@@ -1,4 +1,0 @@
-use Rattle.history_tests.proofs.seated.count_refused.Given as goal
-
-abbrev pub ghosts-close_new_book : goal.ghosts-close_new_book
-ghosts-close_new_book g a = record { name = a.blank.name; parts = a.blank.parts }

@@ -1,0 +1,84 @@
+-- Beginnings of events.
+use Rattle.std.proofs.Common.{◌≡◌, ◌<◌, max, sym, ◌+◌, ℕ, Bool, List, [], ◌∷◌, refl, subst, length, take, take-take, length-take, arith}
+use Rattle.std.proofs.lemmas.List.{take_all}
+use Rattle.flume_model.specs.Log.{Opening}
+use Rattle.judge_calls.specs.declared.event.Event.{Event}
+use Rattle.judge_calls.specs.Explanations.{IsExplained}
+use Rattle.judge_calls.proofs.BeginningLemmas.{beginning_explained}
+use Rattle.judge_search.specs.Reached.{AreExplained}
+use Rattle.judge_search.specs.Search.{BreaksAfter, UnexplainedAfter}
+use Rattle.judge_search.proofs.ReachedEventLemmas.{further_explained}
+
+module _ {T A : Type 0} (equal : T → T → Bool) where
+  -- no events are explained
+  pub none_explained : (o : Opening) → IsExplained {T = T} {A = A} equal o []
+  none_explained o = ([], refl, record { calls = tt; run = tt })
+
+  -- so there are some, if they aren't
+  pub some_events : (o : Opening) (events : List (Event T A)) → (IsExplained equal o events → ⊥) → 0 < length events
+  some_events o [] not_with_next = absurd (not_with_next (none_explained o))
+  some_events o (event ∷ events) not_with_next = omega arith
+
+  -- all of them aren't
+  pub all_not_on : (o : Opening) (events : List (Event T A)) → (IsExplained equal o events → ⊥)
+      → IsExplained equal o (take (length events) events) → ⊥
+  all_not_on o events not_with_next explained = not_with_next
+      (subst (IsExplained equal o) (take_all (length events) events (omega arith)) explained)
+
+  -- a beginning of a beginning
+  shorter : (events : List (Event T A)) (n count : ℕ) → count < length (take n events)
+      → take (count + 1) (take n events) ≡ take (count + 1) events
+  shorter events n count within = let size = length-take n events in take-take (count + 1) n events (omega arith)
+
+  -- if a beginning of the events stops being explained after so many, so do the events
+  pub breaks_on : (o : Opening) (events : List (Event T A)) (n count : ℕ) → BreaksAfter equal o (take n events) count
+      → BreaksAfter equal o events count
+  breaks_on o events n count breaks =
+      let size = length-take n events in
+      let within = breaks.is_within in
+      record {
+        is_within = omega arith;
+        before = subst (IsExplained equal o) (take-take count n events (omega arith)) breaks.before;
+        not_with_next = subst (λ e. IsExplained equal o e → ⊥) (shorter events n count within) breaks.not_with_next;
+      }
+
+  -- if so many are explained of a beginning of the events, and all of that aren't, so it is of the events
+  pub unexplained_on : (o : Opening) (events : List (Event T A)) (n count : ℕ) → UnexplainedAfter equal o (take n events) count
+      → UnexplainedAfter equal o events count
+  unexplained_on o events n count breaks =
+      let size = length-take n events in
+      let within = breaks.is_within in
+      record {
+        is_within = omega arith;
+        before = subst (IsExplained equal o) (take-take count n events (omega arith)) breaks.before;
+        not_all = λ explained. breaks.not_all (beginning_explained equal o events n explained);
+      }
+
+  -- so many of a beginning of the events are so many of the events
+  pub explained_on : (o : Opening) (events : List (Event T A)) (n count : ℕ) → AreExplained equal (take n events) o count
+      → AreExplained equal events o count
+  explained_on o events n count current =
+      let size = length-take n events in
+      let within = current.within in
+      record {
+        within = omega arith;
+        explained = subst (IsExplained equal o) (take-take count n events (omega arith)) current.explained;
+      }
+
+  -- all events
+  pub all_of : (o : Opening) (events : List (Event T A)) → IsExplained equal o events → AreExplained equal events o (length events)
+  all_of o events explained = record {
+    within = omega arith;
+    explained = subst (IsExplained equal o) (sym (take_all (length events) events (omega arith))) explained;
+  }
+
+  -- the further one of two beginnings that are explained, of events that aren't
+  pub unexplained_after : (o : Opening) (events : List (Event T A)) (low count place : ℕ) → low < length events → count < length events
+      → IsExplained equal o (take low events) → AreExplained equal (take count events) o place → (IsExplained equal o events → ⊥)
+      → UnexplainedAfter equal o events (max low place)
+  unexplained_after o events low count place few fewer low_is place_is not_all =
+      let size = length-take count events in
+      let within = place_is.within in
+      let both = further_explained equal events o low place (record { within = omega arith; explained = low_is })
+      (explained_on o events count place place_is) in
+      record { is_within = omega arith; before = both.explained; not_all = not_all }

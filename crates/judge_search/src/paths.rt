@@ -1,0 +1,81 @@
+//! Choices that lead from the start of a channel past all the events.
+ghost use Rattle.std.specs.Prelude.{◌≡◌, ℕ, IfSome, IsTrue};
+ghost use Rattle.std.specs.declared.vec.Vec.{Vec};
+ghost use Rattle.flume_model.specs.Log.{opens};
+ghost use Rattle.judge_calls.specs.Explanations.{IsExplained};
+ghost use Rattle.judge_search.specs.Reached.{AreExplained};
+ghost use Rattle.judge_search.specs.declared.choice.Choice.{Choice};
+
+use crate::choice::Choice;
+use crate::configuration::Configuration;
+use crate::guess::guess_path;
+use crate::replay::make_choices;
+use crate::search::{Found, find_path};
+use judge_calls::event::Event;
+use judge_calls::explanation::{Explained, check_explanation};
+use std::alloc::Allocator;
+
+const GUESSES_PER_EVENT: usize = 10;
+
+const GUESSED_AT_LEAST: usize = 10_000;
+
+/// Choices that lead past all the events, on a channel of this capacity (`None`: unbounded). A
+/// guess, and then a search, enter at most `limit` configurations each after the first.
+pub fn find_choices<T: Copy + Eq + Drop, A: Allocator + Copy>(
+    alloc: A,
+    capacity: Option<usize>,
+    events: &[Event<T, A>],
+    limit: usize,
+) -> Found<A>
+    ensures path { (path : Vec Choice A) → result ≡ Found.Path path
+        → IsExplained T.eq (opens capacity 1) events.now }
+    ensures nothing { (furthest : ℕ) → result ≡ Found.Nothing furthest
+        → IsExplained T.eq (opens capacity 1) events.now → ⊥ }
+    ensures gave_up { (furthest : ℕ) → result ≡ Found.GaveUp furthest
+        → AreExplained T.eq events.now (opens capacity 1) furthest }
+{
+    if let Some(path) = guess_choices(alloc, capacity, events, limit) {
+        return Found::Path(path);
+    }
+    let start = Configuration::new(alloc, capacity);
+    find_path(alloc, start, events, limit)
+}
+
+fn guess_choices<T: Copy + Eq + Drop, A: Allocator + Copy>(
+    alloc: A,
+    capacity: Option<usize>,
+    events: &[Event<T, A>],
+    limit: usize,
+) -> Option<Vec<Choice, A>>
+    ensures explained { IfSome result (λ path.
+        IsExplained T.eq (opens capacity 1) events.now) }
+{
+    let most = events
+        .len()
+        .saturating_mul(GUESSES_PER_EVENT)
+        .saturating_add(GUESSED_AT_LEAST);
+    let start = Configuration::new(alloc, capacity);
+    let path = guess_path(alloc, start, events, limit.min(most))?;
+    if are_explained_by(alloc, capacity, events, path.as_slice()) {
+        Some(path)
+    } else {
+        None
+    }
+}
+
+fn are_explained_by<T: Copy + Eq + Drop, A: Allocator + Copy>(
+    alloc: A,
+    capacity: Option<usize>,
+    events: &[Event<T, A>],
+    path: &[Choice],
+) -> bool
+    ensures explained { IsTrue result → IsExplained T.eq (opens capacity 1) events.now }
+{
+    let Ok(items) = make_choices(alloc, capacity, events, path) else {
+        return false;
+    };
+    match check_explanation(alloc, capacity, items.as_slice()) {
+        Explained::Explains => true,
+        _ => false,
+    }
+}

@@ -1,6 +1,0 @@
--- The step was made.
-use Rattle.proved_callers.proofs.TurnLemmas.{made_by}
-use Rattle.proved_callers.proofs.gates.LocalGateSendGate.park.Goals as goal
-
-pub returns-clause-does : goal.returns-clause-does
-returns-clause-does g c = made_by c.make.ensures.call

@@ -1,0 +1,64 @@
+//! Near-misses of the laws of parties: lists that no channel exchanges, and what a law needs. The
+//! functions do nothing.
+ghost use Rattle.std.specs.Prelude.{◌≡◌, ℕ, [], ◌∷◌, Some, None};
+ghost use Rattle.flume_actions.specs.Actions.{IsPart, IsWhole};
+ghost use Rattle.flume_actions.specs.Calls.{AreCalls};
+ghost use Rattle.flume_laws.specs.Offered.{IsSublist, offered_in};
+ghost use Rattle.flume_laws.specs.Together.{AreExchanged, AreRouted, IsExchangedSoFar};
+ghost use Rattle.test_parties.specs.NearMisses.{one_sent, one_got, three_tried, LawWhen};
+ghost use Rattle.test_parties.specs.NearMisses.{waited_for, LawWithin};
+
+/// Lists that are exchanged, and near-misses of them, which are not.
+pub fn near_misses_are_not_exchanged()
+    // Two senders, and one receiver.
+    ensures exchanged { AreExchanged {X = ℕ} ((1 ∷ 2 ∷ []) ∷ (3 ∷ []) ∷ []) ((1 ∷ 3 ∷ 2 ∷ []) ∷ []) }
+    ensures order_turned { ¬ AreExchanged {X = ℕ} ((1 ∷ 2 ∷ []) ∷ (3 ∷ []) ∷ [])
+        ((2 ∷ 3 ∷ 1 ∷ []) ∷ []) }
+    // One sender, and one receiver.
+    ensures swapped { ¬ AreExchanged {X = ℕ} ((1 ∷ 2 ∷ []) ∷ []) ((2 ∷ 1 ∷ []) ∷ []) }
+    ensures doubled { ¬ AreExchanged {X = ℕ} ((1 ∷ []) ∷ []) ((1 ∷ 1 ∷ []) ∷ []) }
+    ensures lost { ¬ AreExchanged {X = ℕ} ((1 ∷ 2 ∷ []) ∷ []) ((1 ∷ []) ∷ []) }
+{}
+
+/// Lists that are routed, and a near-miss of them, which is not.
+pub fn near_misses_are_not_routed()
+    ensures routed { AreRouted {X = ℕ} ((1 ∷ 2 ∷ []) ∷ []) ((1 ∷ 2 ∷ []) ∷ []) }
+    ensures swapped { ¬ AreRouted {X = ℕ} ((1 ∷ 2 ∷ []) ∷ []) ((2 ∷ 1 ∷ []) ∷ []) }
+{}
+
+/// What was sent is what was got only if the channel was emptied: in a run, one message was sent, and
+/// nobody received it.
+pub fn the_law_needs_an_empty_channel()
+    ensures one_sent { IsWhole None one_sent (Some 1) }
+    ensures needed { ¬ LawWhen (Some 1) }
+{}
+
+/// What is exchanged if a message is left, and a near-miss, in which the one that is left was sent
+/// first.
+pub fn what_is_left_is_not_in_front()
+    ensures last { IsExchangedSoFar {X = ℕ} (Some 2) 2 ((1 ∷ 2 ∷ []) ∷ []) ((1 ∷ []) ∷ []) 1 }
+    ensures first { ¬ IsExchangedSoFar {X = ℕ} (Some 2) 2 ((1 ∷ 2 ∷ []) ∷ []) ((2 ∷ []) ∷ []) 1 }
+{}
+
+/// More messages than the capacity may be left: in a run, a receiver waited, so that a message was
+/// sent into a channel of capacity 0. Then the receiver withdrew.
+pub fn the_bound_needs_the_number_of_parties()
+    ensures one_left { IsWhole (Some 0) waited_for (Some 1) }
+    ensures needed { ¬ LawWithin 0 }
+{}
+
+/// What a party can have got of what was offered, and near-misses: of 1, 2 and 3, only 1 and 3 were
+/// taken.
+pub fn near_misses_were_not_offered()
+    ensures all { IsSublist (1 ∷ 3 ∷ []) (offered_in three_tried) }
+    ensures some { IsSublist (3 ∷ []) (offered_in three_tried) }
+    ensures doubled { ¬ IsSublist (1 ∷ 1 ∷ []) (offered_in three_tried) }
+    ensures refused { ¬ IsSublist (2 ∷ []) (offered_in three_tried) }
+    ensures swapped { ¬ IsSublist (3 ∷ 1 ∷ []) (offered_in three_tried) }
+{}
+
+/// A party got a message that another one sent: its calls are whole, and part of a run.
+pub fn a_party_got_what_another_sent()
+    ensures calls { AreCalls one_got [] (1 ∷ []) }
+    ensures part { (part : IsPart None one_got) × (part.others ≡ one_sent) }
+{}

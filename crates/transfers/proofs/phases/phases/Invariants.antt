@@ -1,5 +1,0 @@
-use Rattle.transfers.proofs.phases.phases.Given as goal
-
--- the channel that was just made
-abbrev pub ghosts-phases_named : goal.ghosts-phases_named
-ghosts-phases_named g a = record { identity = a.channel }
