@@ -32,3 +32,11 @@ pub mod SplitItemLemmas
 pub mod UnsentLemmas
 -- Messages are received in the order in which they were sent.
 pub mod InOrderLemmas
+pub mod CutLemmas
+pub mod LinePartLemmas
+pub mod ThreadNameLemmas
+pub mod ReadEventLemmas
+pub mod DigitLemmas
+pub mod CallWordLemmas
+pub mod AnswerWordLemmas
+pub mod SpacedNumberLemmas

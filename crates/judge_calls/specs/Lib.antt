@@ -6,3 +6,7 @@ pub mod Descriptions
 pub mod Following
 pub mod NoIdleSteps
 pub mod Patterns
+pub mod Texts
+pub mod EventLines
+pub mod Recordings
+pub mod NextEvents

@@ -4,8 +4,8 @@ use Rattle.std.specs.List.{flat_map}
 use Rattle.std.specs.Fmt.{decimal}
 use Rattle.judge_calls.specs.declared.event.Event.{Event}
 use Rattle.judge_calls.specs.declared.event.Event.TheVariants.{Begins, Returns}
-use Rattle.judge_recordings.specs.EventLines.{begins_line, returns_line}
-use Rattle.judge_recordings.specs.Texts.{call_text, answer_text}
+use Rattle.judge_calls.specs.EventLines.{begins_line, returns_line}
+use Rattle.judge_calls.specs.Texts.{call_text, answer_text}
 
 -- a line with the byte that ends it
 abbrev pub whole_line : List ℕ → List ℕ

@@ -5,7 +5,7 @@ ghost use Rattle.judge_recorder.specs.Texts.{line_text, opening_text, recording_
 
 use flume_error::error::NoMemory;
 use judge_calls::event::Event;
-use judge_recordings::writing::write_event;
+use judge_calls::writing::write_event;
 use std::alloc::Allocator;
 
 fn thread_of<A: Allocator>(event: &Event<u64, A>) -> usize

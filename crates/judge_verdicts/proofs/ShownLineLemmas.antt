@@ -3,7 +3,7 @@ use Rattle.std.proofs.Common.{◌≡◌, ℕ, ◌+◌, ◌<◌, List, [], ◌∷
 use Rattle.std.proofs.lemmas.Grind.{take_at_read}
 use Rattle.std.proofs.lemmas.List.{append_assoc, append-nil}
 use Rattle.judge_calls.specs.declared.call.Answer.{Answer}
-use Rattle.judge_recordings.specs.Texts.{answer_text}
+use Rattle.judge_calls.specs.Texts.{answer_text}
 use Rattle.judge_verdicts.specs.CallsText.{or_text}
 
 module _ {A : Type 0} where

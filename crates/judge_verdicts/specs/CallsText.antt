@@ -11,11 +11,11 @@ use Rattle.judge_calls.specs.declared.event.Event.TheVariants.{Begins, Returns}
 use Rattle.judge_calls.specs.declared.event.Item.{Item}
 use Rattle.judge_calls.specs.Explanations.{events_in, thread_of, IsExplained}
 use Rattle.judge_calls.specs.Descriptions.{DescribeExplanation}
-use Rattle.judge_recordings.specs.declared.fault.Fault.{Fault}
-use Rattle.judge_recordings.specs.declared.fault.Fault.TheVariants.{NoOpening, NoEvent, NoCall}
-use Rattle.judge_recordings.specs.declared.fault.Fault.TheVariants.{NoAnswer}
-use Rattle.judge_recordings.specs.Recordings.{IsRecordingText, IsFirstWrongEvent}
-use Rattle.judge_recordings.specs.Texts.{answer_text, call_text}
+use Rattle.judge_calls.specs.declared.fault.Fault.{Fault}
+use Rattle.judge_calls.specs.declared.fault.Fault.TheVariants.{NoOpening, NoEvent, NoCall}
+use Rattle.judge_calls.specs.declared.fault.Fault.TheVariants.{NoAnswer}
+use Rattle.judge_calls.specs.Recordings.{IsRecordingText, IsFirstWrongEvent}
+use Rattle.judge_calls.specs.Texts.{answer_text, call_text}
 use Rattle.judge_verdicts.specs.ItemLines.{item_lines}
 use Rattle.judge_verdicts.specs.Turns.{IsRecordingOf, IsOutOfTurn}
 

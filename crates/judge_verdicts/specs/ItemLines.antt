@@ -5,8 +5,8 @@ use Rattle.flume_script.specs.Script.{step_parts}
 use Rattle.flume_script.specs.ReplyTexts.{reply_text}
 use Rattle.judge_calls.specs.declared.event.Item.{Item}
 use Rattle.judge_calls.specs.declared.event.Item.TheVariants.{Happens, Makes}
-use Rattle.judge_recordings.specs.EventLines.{event_text, name_of}
-use Rattle.judge_recordings.specs.Texts.{worded}
+use Rattle.judge_calls.specs.EventLines.{event_text, name_of}
+use Rattle.judge_calls.specs.Texts.{worded}
 
 -- the text of a step, as a script has it
 abbrev pub step_text : Step ℕ → List ℕ

@@ -1,6 +1,6 @@
 //! The lines of the items that explain a recording.
 ghost use Rattle.std.specs.Prelude.{IfOk, OnOk, ◌≡◌, ◌∷◌, ◌++◌, string_bytes};
-ghost use Rattle.judge_recordings.specs.Recordings.{names_of};
+ghost use Rattle.judge_calls.specs.Recordings.{names_of};
 ghost use Rattle.judge_verdicts.specs.ItemLines.{item_line, item_lines, step_text};
 
 use flume_core::error::NoMemory;
@@ -8,7 +8,7 @@ use flume_model::step::Step;
 use flume_script::words::parts_of;
 use flume_script::writing::write_reply;
 use judge_calls::event::Item;
-use judge_recordings::writing::write_event;
+use judge_calls::writing::write_event;
 use std::alloc::Allocator;
 
 pub(crate) fn write_items<A: Allocator + Copy>(

@@ -7,7 +7,7 @@ use flume_script::faults::{
     write_shown,
 };
 use flume_script::reading::{number, part_at};
-use judge_recordings::calls::call_of;
+use judge_calls::call_texts::call_of;
 use std::alloc::Allocator;
 
 pub(crate) fn explain_input<A: Allocator + Copy>(

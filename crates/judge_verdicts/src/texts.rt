@@ -4,11 +4,11 @@ ghost use Rattle.judge_verdicts.specs.CallsText.{but_text, fault_text, line_text
 ghost use Rattle.judge_verdicts.specs.CallsText.{recorded_text};
 
 use flume_core::error::NoMemory;
+use judge_calls::answer_texts::write_answer;
 use judge_calls::call::Answer;
+use judge_calls::call_texts::write_call;
 use judge_calls::event::Event;
-use judge_recordings::answers::write_answer;
-use judge_recordings::calls::write_call;
-use judge_recordings::fault::Fault;
+use judge_calls::fault::Fault;
 use std::alloc::Allocator;
 
 pub(crate) fn write_line<A: Allocator + Copy>(

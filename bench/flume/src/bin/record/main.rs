@@ -1,5 +1,5 @@
 //! Runs threads on a channel of flume 0.12.0 or of crossbeam-channel, and prints what they recorded
-//! of their calls, as text of `crates/judge_recordings`.
+//! of their calls, as text of `crates/judge_calls`.
 
 mod draw;
 mod ends;

@@ -1,7 +1,7 @@
 -- One more line is behind the others.
 use Rattle.std.proofs.Common.{◌≡◌, ◌∙◌, ap, ◌∷◌, ◌++◌, get_or, take, sym, rules}
 use Rattle.std.proofs.lemmas.List.{append_assoc}
-use Rattle.judge_recordings.specs.Recordings.{names_of}
+use Rattle.judge_calls.specs.Recordings.{names_of}
 use Rattle.judge_verdicts.specs.ItemLines.{item_line, item_lines}
 use Rattle.judge_verdicts.proofs.ItemListLemmas.{lines_more}
 use Rattle.judge_verdicts.proofs.items.write_items.Goals as goal

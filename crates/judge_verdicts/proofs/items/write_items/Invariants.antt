@@ -1,5 +1,5 @@
 use Rattle.std.proofs.Common.{◌≡◌, ◌∷◌, ◌++◌, take}
-use Rattle.judge_recordings.specs.Recordings.{names_of}
+use Rattle.judge_calls.specs.Recordings.{names_of}
 use Rattle.judge_verdicts.specs.ItemLines.{item_lines}
 use Rattle.judge_verdicts.proofs.items.write_items.Given as goal
 

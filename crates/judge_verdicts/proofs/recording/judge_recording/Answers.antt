@@ -2,7 +2,7 @@
 use Rattle.std.proofs.Common.{ℕ, List, ◌≡◌, ◌∷◌, ◌∙◌, ap, sym, subst}
 use Rattle.std.specs.Str.Lines.{lines}
 use Rattle.std.proofs.lemmas.Result.{IfOk-weaker}
-use Rattle.judge_recordings.specs.Recordings.{IsRecordingText, names_of}
+use Rattle.judge_calls.specs.Recordings.{IsRecordingText, names_of}
 use Rattle.judge_verdicts.specs.CallsText.{JudgesCalls}
 use Rattle.judge_verdicts.proofs.recording.judge_recording.Goals as goal
 

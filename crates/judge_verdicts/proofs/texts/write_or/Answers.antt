@@ -1,7 +1,7 @@
 -- One more answer is behind the others.
 use Rattle.std.proofs.Common.{◌≡◌, ◌∙◌, ap, ◌++◌, string_bytes, get_or, take, sym, rules, codes}
 use Rattle.std.proofs.lemmas.List.{append_assoc}
-use Rattle.judge_recordings.specs.Texts.{answer_text}
+use Rattle.judge_calls.specs.Texts.{answer_text}
 use Rattle.judge_verdicts.specs.CallsText.{or_text}
 use Rattle.judge_verdicts.proofs.ShownLineLemmas.{or_more}
 use Rattle.judge_verdicts.proofs.texts.write_or.Goals as goal

@@ -1,8 +1,0 @@
-use Rattle.std.proofs.Common.{◌≡◌, ◌<◌, ℕ}
-use Rattle.judge_recordings.specs.EventLines.{name_of}
-use Rattle.judge_recordings.specs.Recordings.{names_of}
-use Rattle.judge_recordings.proofs.threads.place_of.Given as goal
-
--- no name before this place is the one that is looked for
-abbrev pub invariant-loop-place : goal.invariant-loop-place
-invariant-loop-place l = (t : ℕ) → t < l.place → ¬ (name_of (names_of l.names) t ≡ l.name)

@@ -1,4 +1,0 @@
-pub mod Texts
-pub mod EventLines
-pub mod Recordings
-pub mod NextEvents
