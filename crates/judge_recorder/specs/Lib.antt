@@ -4,3 +4,4 @@ pub mod Drains
 pub mod Merged
 pub mod Texts
 pub mod RecordingErrors
+pub mod Led

@@ -28,6 +28,7 @@ mod counters;
 mod drains;
 mod end;
 mod ends;
+pub mod laws;
 mod queries;
 mod receives;
 mod recorder;

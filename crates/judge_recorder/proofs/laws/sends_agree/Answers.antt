@@ -13,8 +13,8 @@ use Rattle.judge_calls.specs.declared.call.Answer.TheVariants.{Sent, NoMemory}
 use Rattle.judge_calls.specs.declared.stage.Stage.{Stage}
 use Rattle.judge_calls.specs.declared.stage.Stage.TheVariants.{Begun, Tried, Parked, Answered}
 use Rattle.judge_calls.specs.Calls.{is_send, stage_after}
-use Rattle.judge_call_turns.specs.Led.{stage_of_send, untimed}
-use Rattle.judge_call_turns.proofs.sends_agree.Goals as goal
+use Rattle.judge_recorder.specs.Led.{stage_of_send, untimed}
+use Rattle.judge_recorder.proofs.laws.sends_agree.Goals as goal
 
 module _ {T A : Type 0} where
   full : (call : Call T) (stage : Stage T A) (back : T) → is_send call ≡ true → stage_after {A = A} call stage (reply.Full back) ≡ Tried

@@ -1,6 +1,4 @@
 //! Laws that check the definitions of `judge_calls` against those of `flume_calls`.
-#![tactic(auto)]
-
 ghost use Rattle.std.specs.Prelude.{◌≡◌, ℕ, Bool, true, false, Some, Result, Ok};
 ghost use Rattle.flume_core.specs.declared.error.RecvTimeoutError.{RecvTimeoutError};
 ghost use Rattle.flume_model.specs.Channel.{Channel};
@@ -25,8 +23,8 @@ ghost use Rattle.judge_calls.specs.declared.call.Answer.{Answer};
 ghost use Rattle.judge_calls.specs.declared.call.Answer.TheVariants.{Got, Dropped};
 ghost use Rattle.judge_calls.specs.declared.stage.Stage.TheVariants.{Begun, Tried, Parked};
 ghost use Rattle.judge_calls.specs.declared.stage.Stage.TheVariants.{Refused};
-ghost use Rattle.judge_call_turns.specs.Led.{stage_of_send, stage_of_receive};
-ghost use Rattle.judge_call_turns.specs.Led.{blocks_to_receive, unrefused, untimed};
+ghost use Rattle.judge_recorder.specs.Led.{stage_of_send, stage_of_receive};
+ghost use Rattle.judge_recorder.specs.Led.{blocks_to_receive, unrefused, untimed};
 
 use std::alloc::Allocator;
 

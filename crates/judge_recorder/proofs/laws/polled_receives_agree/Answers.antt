@@ -11,8 +11,8 @@ use Rattle.judge_calls.specs.declared.call.Answer.TheVariants.{Got, Dropped}
 use Rattle.judge_calls.specs.declared.stage.Stage.TheVariants.{Begun, Tried, Parked}
 use Rattle.judge_calls.specs.Answers.{equal_answers, may_return}
 use Rattle.judge_calls.specs.Calls.{stage_after}
-use Rattle.judge_call_turns.specs.Led.{stage_of_receive, unrefused}
-use Rattle.judge_call_turns.proofs.polled_receives_agree.Goals as goal
+use Rattle.judge_recorder.specs.Led.{stage_of_receive, unrefused}
+use Rattle.judge_recorder.proofs.laws.polled_receives_agree.Goals as goal
 
 -- one or false is that one
 or_false : (b : Bool) → (b || false) ≡ b

@@ -13,8 +13,8 @@ use Rattle.judge_calls.specs.declared.call.Call.TheVariants.{Recv, RecvTimeout}
 use Rattle.judge_calls.specs.declared.stage.Stage.{Stage}
 use Rattle.judge_calls.specs.declared.stage.Stage.TheVariants.{Begun, Tried, Parked, Refused}
 use Rattle.judge_calls.specs.Calls.{is_send, stage_after}
-use Rattle.judge_call_turns.specs.Led.{stage_of_receive, blocks_to_receive}
-use Rattle.judge_call_turns.proofs.receives_agree.Goals as goal
+use Rattle.judge_recorder.specs.Led.{stage_of_receive, blocks_to_receive}
+use Rattle.judge_recorder.proofs.laws.receives_agree.Goals as goal
 
 module _ {T : Type 0} where
   -- what holds of the two receives that block
