@@ -6,7 +6,7 @@ use Rattle.std.specs.Ordering.{nat_cmp}
 use Rattle.judge_calls.specs.declared.call.Call.{Call}
 use Rattle.judge_calls.specs.declared.event.Event.{Event}
 use Rattle.judge_calls.specs.declared.event.Event.TheVariants.{Begins, Returns}
-use Rattle.judge_recordings.specs.Recordings.{IsRecordingText}
+use Rattle.judge_calls.specs.Recordings.{IsRecordingText}
 
 module _ {A : Type 0} where
   -- the call that a thread has open, if any; the newest event comes first, here and below

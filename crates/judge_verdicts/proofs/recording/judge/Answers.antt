@@ -6,7 +6,7 @@ use Rattle.std.proofs.lemmas.Result.{IfOk-weaker}
 use Rattle.flume_model.specs.Log.{opens}
 use Rattle.judge_search.specs.Search.{BreaksAfter}
 use Rattle.judge_calls.specs.declared.event.Event.{Event}
-use Rattle.judge_recordings.specs.Recordings.{names_of}
+use Rattle.judge_calls.specs.Recordings.{names_of}
 use Rattle.judge_verdicts.specs.Turns.{IsRecordingOf}
 use Rattle.judge_verdicts.specs.CallsText.{AreExplained, PrintsWrongEvent, PrintsCorrect, JudgesCalls, PrintsUndecided, PrintsSteps}
 use Rattle.judge_verdicts.proofs.recording.judge.Goals as goal

@@ -3,7 +3,7 @@ use Rattle.std.proofs.Common.{inl, inr, ℕ, Option, List, ◌≡◌, ◌∷◌,
 use Rattle.std.specs.Str.Lines.{lines}
 use Rattle.std.proofs.lemmas.Result.{IfOk-weaker}
 use Rattle.judge_calls.specs.declared.event.Event.{Event}
-use Rattle.judge_recordings.specs.Recordings.{IsRecordingText, names_of}
+use Rattle.judge_calls.specs.Recordings.{IsRecordingText, names_of}
 use Rattle.judge_verdicts.specs.CallsText.{JudgesCalls, PrintsOutOfTurn}
 use Rattle.judge_verdicts.specs.Turns.{AreInTurn, IsOutOfTurn, IsRecordingOf}
 use Rattle.judge_verdicts.proofs.recording.judge_in_turn.Goals as goal

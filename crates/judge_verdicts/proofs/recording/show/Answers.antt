@@ -3,7 +3,7 @@ use Rattle.std.proofs.Common.{inl, inr, ℕ, List, ◌≡◌, ◌∷◌, ◌++�
 use Rattle.std.specs.Str.Lines.{lines}
 use Rattle.std.proofs.lemmas.Result.{IfOk-weaker}
 use Rattle.judge_calls.specs.declared.event.Event.{Event}
-use Rattle.judge_recordings.specs.Recordings.{names_of}
+use Rattle.judge_calls.specs.Recordings.{names_of}
 use Rattle.judge_verdicts.specs.Turns.{IsRecordingOf}
 use Rattle.judge_verdicts.specs.CallsText.{AreExplained, PrintsUndecided, PrintsSteps}
 use Rattle.judge_verdicts.specs.ItemLines.{item_lines}
