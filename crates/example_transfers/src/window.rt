@@ -4,6 +4,7 @@
 //! waits for room, and goes on if there is some, or gives up after a time.
 ghost use Rattle.std.specs.Prelude.{◌≡◌, ◌≤◌, ◌++◌, ℕ, List, [], length, Some, IfOk};
 ghost use Rattle.flume_actions.specs.Callers.{HasMadeCalls};
+ghost use Rattle.flume_laws.specs.Offered.{WereOffered};
 
 use flume::traced::{ChannelName, ChannelParty, TracedReceiver, TracedSender, UnopenedChannel};
 use flume::{Receiver, Runtime, SendTimeoutError, Sender, Waits};
@@ -17,6 +18,7 @@ use std::time::Duration;
 const PATIENCE: u64 = 5;
 
 /// Sends 1, 2 and so on, until there is no room after `stopped` was disconnected: what was sent.
+#[tactic(auto, using(flume_laws::proofs::LoopLemmas::call_steps))]
 pub fn send_numbers<R: Waits, J: ChannelName>(
     rt: R,
     alloc: Global,
@@ -46,7 +48,9 @@ pub fn send_numbers<R: Waits, J: ChannelName>(
     unreachable!()
 }
 
-/// Receives so many numbers, and stops: it drops the sender `stop`.
+/// Receives so many numbers, and stops: it drops the sender `stop`. Whatever the other thread does
+/// meanwhile, these were offered in the channel, in this order, and didn't go back.
+#[tactic(auto, using(flume_laws::proofs::LoopLemmas::call_steps))]
 pub fn receive_some<R: Waits, J: ChannelName>(
     alloc: Global,
     rx: &TracedReceiver<u64, R, J>,
@@ -56,11 +60,13 @@ pub fn receive_some<R: Waits, J: ChannelName>(
 ) -> io::Result<(ChannelParty<u64, J>, Vec<u64>)>
     ensures got { IfOk result (λ r. HasMadeCalls me r.0 [] r.1.items) }
     ensures wanted { IfOk result (λ r. length r.1.items ≡ wanted) }
+    ensures offered { IfOk result (λ r. WereOffered J.identity.capacity r.0.actions r.1.items) }
 {
     let mut got = Vec::new(alloc);
     for _ in 0..wanted {
         got.push(rx.recv(&mut me)?)?;
     }
+    rx.confirm(&mut me);
     drop(stop);
     Ok((me, got))
 }

@@ -58,6 +58,8 @@ mod GotOfferedLemmas
 pub mod TakeInLemmas
 -- What callers cite: a party that goes on after it took in others, so that they sent before it.
 pub mod GoOnLemmas
+-- What callers cite by `using`: a loop in which a party makes a call after the other.
+pub mod LoopLemmas
 -- What callers cite: an invariant of their own, before the first call and after one more.
 pub mod InvariantLemmas
 -- What callers cite: a party that made calls, and then confirmed.

@@ -2,6 +2,7 @@
 use Rattle.std.proofs.Common.{◌≡◌, ℕ, ◌+◌, ◌≤◌, List, [], ◌∷◌, ◌++◌, length, Option, Some, refl, ap}
 use Rattle.std.proofs.Common.{sym}
 use Rattle.std.proofs.Common.{subst, ◌∙◌, arith}
+use Rattle.flume_model.specs.WaitLaws.{IsWithinCapacity}
 use Rattle.flume_party.specs.Interleavings.{Interleaving}
 use Rattle.flume_party.specs.Parties.{PartyState, party_of, Merged}
 use Rattle.flume_party.proofs.InterleavingLemmas.{interleaved_alone, interleaved_swap}
@@ -187,6 +188,14 @@ module _ {T : Type 0} where
       (all : IsExchangedSoFar capacity parties (sent ∷ []) (got ∷ []) n) → sent ≡ got ++ all.left
   left_in_order all =
       sym (one_in_order all.sent) ∙ ap (λ line. line ++ all.left) (one_in_order all.got)
+
+  -- and in a channel whose capacity isn't less than the number of parties
+  pub left_within : {sent got : List T} {capacity : Option ℕ} {bound parties n : ℕ}
+      → IsExchangedSoFar capacity parties (sent ∷ []) (got ∷ []) n → capacity ≡ Some bound
+      → parties ≤ bound → (left : List T) × (sent ≡ got ++ left) × (length left ≤ bound)
+  left_within {parties = parties} {n = n} all is enough =
+      let within = subst (λ limit. IsWithinCapacity limit parties n) is all.within in
+      (all.left, left_in_order all, omega (arith, within, all.count, enough))
 
   -- two senders and two receivers: who got what from whom
   pub two_routed : {first second left right : List T}

@@ -15,9 +15,10 @@ use Rattle.flume_actions.specs.ReceiveCalls.{Polled, Left as LeftBy}
 use Rattle.flume_actions.specs.Calls.{AreCalls, AndCall, NoCalls, TriesToSend, TriesToReceive}
 use Rattle.flume_actions.specs.Calls.{PollsToReceive}
 use Rattle.flume_laws.specs.Together.{Interleaved, AreEmpty, EachMerged, NoList, AndLists}
-use Rattle.flume_laws.specs.Together.{EachAreCalls, AndParty, NoParty}
-use Rattle.flume_laws.proofs.TakeInLemmas.{one_in_order}
-use Rattle.test_parties.specs.NearMisses.{one_sent, one_got, waited_for}
+use Rattle.flume_laws.specs.Together.{EachAreCalls, AndParty, NoParty, AreExchangedInPhases}
+use Rattle.flume_laws.proofs.TakeInLemmas.{one_in_order, two_in_order}
+use Rattle.test_parties.specs.NearMisses.{one_sent, one_got, waited_for, sends, both_got}
+use Rattle.test_parties.specs.NearMisses.{two_exchanged}
 
 -- an interleaving begins as one of its lists
 pub begins_so : {xs ys zs : List ℕ} → Interleaving xs ys zs → xs ≡ 1 ∷ 2 ∷ [] → ys ≡ 3 ∷ []
@@ -45,6 +46,7 @@ one_is_whole = record {
   all = refl;
   run = search rules;
   counted = λ n is. (cc is, refl);
+  uncounted = λ none. absurd cc;
 }
 
 pub one_call : EachAreCalls (one_sent ∷ []) ((1 ∷ []) ∷ []) ([] ∷ [])
@@ -57,6 +59,7 @@ waited_is_whole = record {
   all = refl;
   run = search rules;
   counted = λ n is. (cc is, refl);
+  uncounted = λ none. absurd cc;
 }
 
 pub two_calls : EachAreCalls
@@ -97,3 +100,46 @@ got_of_another = (
   },
   refl,
 )
+
+-- the run in which two messages were sent and got, and its parties
+pub two_are_whole : IsWhole None two_exchanged (Some 0)
+two_are_whole = record {
+  history = two_exchanged;
+  all = refl;
+  run = search rules;
+  counted = λ n is. (cc is, refl);
+  uncounted = λ none. absurd cc;
+}
+
+pub one_sends : (message : ℕ) → AreCalls (sends message) (message ∷ []) []
+one_sends message = AndCall NoCalls (TriesToSend (Done (Ok tt)) (search rules))
+
+pub both_receives : AreCalls both_got [] (1 ∷ 2 ∷ [])
+both_receives = AndCall (AndCall NoCalls (TriesToReceive (receive.Done (Ok 1)) (search rules)))
+    (TriesToReceive (receive.Done (Ok 2)) (search rules))
+
+pub three_calls : EachAreCalls (sends 1 ∷ sends 2 ∷ both_got ∷ []) ((1 ∷ []) ∷ (2 ∷ []) ∷ [] ∷ [])
+    ([] ∷ [] ∷ (1 ∷ 2 ∷ []) ∷ [])
+three_calls = AndParty (one_sends 1) (AndParty (one_sends 2) (AndParty both_receives NoParty))
+
+pub three_merged : Interleaved (sends 1 ∷ sends 2 ∷ both_got ∷ []) two_exchanged
+three_merged = (
+  sends 2 ++ both_got,
+  (both_got, ([], refl, Left (Left End)), Left (Right (Right End))),
+  Left (Right (Right (Right End))),
+)
+
+-- if 2 comes before 1, a receiver that got both didn't get 1 first
+pub second_first : AreExchangedInPhases {X = ℕ} ((2 ∷ []) ∷ []) ((1 ∷ []) ∷ []) ([] ∷ [])
+    ((1 ∷ 2 ∷ []) ∷ [] ∷ [] ∷ []) → ⊥
+second_first all =
+    let none : all.8.0 ≡ [] = interleaved_alone [] all.8.0 (two_in_order all.8.1) in
+    let line : all.3 ≡ 1 ∷ 2 ∷ [] = interleaved_alone (1 ∷ 2 ∷ []) all.3
+    (subst (λ others. Interleaving (1 ∷ 2 ∷ []) others all.3) none all.8.2) in
+    let first : all.0 ≡ 2 ∷ [] = one_in_order all.4 in
+    let second : all.1 ≡ 1 ∷ [] = one_in_order all.5 in
+    let found : is_sublist (all.0 ++ all.1) all.3 ≡ true = sublist_is_found all.7 in
+    let turned : false ≡ true =
+    subst (λ (t : List ℕ × List ℕ × List ℕ). is_sublist (t.0 ++ t.1) t.2 ≡ true)
+    (λ i. (first i, second i, line i)) found in
+    cc

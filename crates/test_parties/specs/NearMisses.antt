@@ -1,10 +1,12 @@
 -- Histories for near-misses, and laws of parties without one of their premises, or with another bound.
-use Rattle.std.specs.Prelude.{ℕ, false, List, [], ◌∷◌, Option, Some, None}
+use Rattle.std.specs.Prelude.{◌≡◌, ℕ, false, List, [], ◌∷◌, ◌++◌, map, Option, Some, None}
 use Rattle.flume_model.specs.declared.step.Kind.TheVariants.{Plain}
 use Rattle.flume_model.specs.declared.step.Step.TheVariants.{TrySend, Send, TryRecv, Recv, Withdraw}
 use Rattle.flume_model.specs.declared.step.Reply.TheVariants.{Sent, Full, Pending, Got, Parked, Gone}
+use Rattle.flume_party.specs.Interleavings.{Interleaving}
 use Rattle.flume_actions.specs.Actions.{Action, IsWhole}
 use Rattle.flume_laws.specs.Together.{Interleaved, EachAreCalls, AreExchanged, IsExchangedSoFar}
+use Rattle.flume_laws.specs.Together.{AreExchangedInPhases, sum_over_all}
 
 -- one message was sent, and nothing else was done
 abbrev pub one_sent : List (Action ℕ (Unit {0}))
@@ -35,3 +37,34 @@ LawWithin number = (capacity : Option ℕ) (n : ℕ) (parties : List (List (Acti
     (all : List (Action ℕ (Unit {0}))) (sents gots : List (List ℕ)) → Interleaved parties all
     → EachAreCalls parties sents gots → IsWhole capacity all (Some n)
     → IsExchangedSoFar capacity number sents gots n
+
+-- this message was sent
+abbrev pub sends : ℕ → List (Action ℕ (Unit {0}))
+sends message = (TrySend message, Sent None) ∷ []
+
+-- 1 and 2 were got
+abbrev pub both_got : List (Action ℕ (Unit {0}))
+both_got = (TryRecv, Got 1) ∷ (TryRecv, Got 2) ∷ []
+
+-- 1 was sent, 2 was sent, and both were got
+abbrev pub two_exchanged : List (Action ℕ (Unit {0}))
+two_exchanged = sends 1 ++ (sends 2 ++ both_got)
+
+-- after whole calls that emptied the channel, the sum over what was sent is that over what was got, if
+-- what each party got is changed so
+abbrev pub SumLawWith : (List ℕ → List ℕ) → Type 0
+SumLawWith change = (capacity : Option ℕ) (parties : List (List (Action ℕ (Unit {0}))))
+    (all : List (Action ℕ (Unit {0}))) (sents gots : List (List ℕ)) → Interleaved parties all
+    → EachAreCalls parties sents gots → IsWhole capacity all (Some 0)
+    → sum_over_all (λ x. x) sents ≡ sum_over_all (λ x. x) (map change gots)
+
+-- after whole calls that emptied the channel, what was sent late comes before what was sent early
+abbrev pub LateLaw : Type 0
+LateLaw = (capacity : Option ℕ) (parties parties' parties'' : List (List (Action ℕ (Unit {0}))))
+    (early late others all : List (Action ℕ (Unit {0})))
+    (sents sents' sents'' gots gots' gots'' : List (List ℕ))
+    → Interleaved parties early → EachAreCalls parties sents gots
+    → Interleaved parties' late → EachAreCalls parties' sents' gots'
+    → Interleaved parties'' others → EachAreCalls parties'' sents'' gots''
+    → Interleaving (early ++ late) others all → IsWhole capacity all (Some 0)
+    → AreExchangedInPhases sents' sents sents'' (gots'' ++ (gots' ++ gots))

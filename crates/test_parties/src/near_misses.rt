@@ -1,12 +1,13 @@
 //! Near-misses of the laws of parties: lists that no channel exchanges, and what a law needs. The
 //! functions do nothing.
-ghost use Rattle.std.specs.Prelude.{◌≡◌, ℕ, [], ◌∷◌, Some, None};
+ghost use Rattle.std.specs.Prelude.{◌≡◌, ℕ, [], ◌∷◌, ◌++◌, drop, take, Some, None};
 ghost use Rattle.flume_actions.specs.Actions.{IsPart, IsWhole};
 ghost use Rattle.flume_actions.specs.Calls.{AreCalls};
 ghost use Rattle.flume_laws.specs.Offered.{IsSublist, offered_in};
 ghost use Rattle.flume_laws.specs.Together.{AreExchanged, AreRouted, IsExchangedSoFar};
 ghost use Rattle.test_parties.specs.NearMisses.{one_sent, one_got, three_tried, LawWhen};
 ghost use Rattle.test_parties.specs.NearMisses.{waited_for, LawWithin};
+ghost use Rattle.test_parties.specs.NearMisses.{two_exchanged, SumLawWith, LateLaw};
 
 /// Lists that are exchanged, and near-misses of them, which are not.
 pub fn near_misses_are_not_exchanged()
@@ -61,4 +62,18 @@ pub fn near_misses_were_not_offered()
 pub fn a_party_got_what_another_sent()
     ensures calls { AreCalls one_got [] (1 ∷ []) }
     ensures part { (part : IsPart None one_got) × (part.others ≡ one_sent) }
+{}
+
+/// A sum isn't kept if each party lost the first message that it got, or counted it twice: in a run,
+/// two messages were sent and got, and the sums differ.
+pub fn a_sum_needs_each_message_once()
+    ensures emptied { IsWhole None two_exchanged (Some 0) }
+    ensures lost { ¬ SumLawWith (drop 1) }
+    ensures doubled { ¬ SumLawWith (λ got. take 1 got ++ got) }
+{}
+
+/// What was sent late doesn't come before what was sent early: in that run, the two messages were sent
+/// one after the other, and got in this order.
+pub fn phases_are_not_swapped()
+    ensures swapped { ¬ LateLaw }
 {}

@@ -1,12 +1,14 @@
-use Rattle.std.proofs.Common.{rules, []}
+use Rattle.std.proofs.Common.{rules, [], ◌∷◌}
 use Rattle.flume_actions.specs.Callers.{HasMadeCalls}
-use Rattle.flume_laws.proofs.TakeInLemmas.{none_taken_in, split_off, emptied}
+use Rattle.flume_laws.proofs.TakeInLemmas.{none_taken_in, split_off, take_in_sender, emptied}
+use Rattle.flume_laws.proofs.TakeInLemmas.{two_in_order}
+use Rattle.flume_laws.proofs.GoOnLemmas.{go_on_sender, take_in_further_receiver}
+use Rattle.flume_laws.proofs.GoOnLemmas.{exchanged_in_phases, one_behind_all}
 use Rattle.example_transfers.specs.Phases.{HasSentInPhases}
-use Rattle.example_transfers.proofs.BehindLemmas.{third_behind}
 use Rattle.example_transfers.proofs.phases.phases_named.Goals as goal
 
-pub returns : goal.returns
-returns g c =
+pub returns-clause-phases : goal.returns-clause-phases
+returns-clause-phases g c =
     let first = c.split_off.ensures in
     let second = c.split_off-2.ensures in
     let receiver = c.split_off-receiver.ensures in
@@ -17,7 +19,11 @@ returns g c =
     c.in_ok-got.got.items.items = search rules in
     let none = split_off (split_off (split_off (none_taken_in c.in_ok-tx.ensures.party) first.rest)
     second.rest) receiver.rest in
-    record {
-      phases = third_behind none first.new second.new sent receiver.new got c.merge.ensures.merged
-          (emptied c.in-Some-eq0.ensures.whole c.in-Some-eq0.field-0-test);
-    }
+    let early = take_in_sender (take_in_sender none first.new sent.one_sent sent.one_merged)
+    second.new sent.other_sent sent.other_merged in
+    let all = take_in_further_receiver (go_on_sender early sent.sent) receiver.new got
+    c.merge.ensures.merged in
+    let whole = emptied c.in-Some-eq0.ensures.whole c.in-Some-eq0.field-0-test in
+    let items = one_behind_all (c.args.second.now ∷ c.args.first.now ∷ [])
+    (exchanged_in_phases all whole) in
+    (items.0, two_in_order items.1, items.2)

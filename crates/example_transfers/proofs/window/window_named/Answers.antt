@@ -1,7 +1,7 @@
 use Rattle.std.proofs.Common.{rules, [], ap, sym, ◌∙◌}
 use Rattle.flume_actions.specs.Callers.{HasMadeCalls}
-use Rattle.flume_laws.proofs.TakeInLemmas.{none_taken_in, split_off}
-use Rattle.example_transfers.proofs.AheadLemmas.{at_most_ahead}
+use Rattle.flume_laws.proofs.TakeInLemmas.{none_taken_in, split_off, take_in_sender}
+use Rattle.flume_laws.proofs.TakeInLemmas.{take_in_receiver, exchanged_so_far, left_within}
 use Rattle.example_transfers.proofs.window.window_named.Goals as goal
 
 pub returns-clause-window : goal.returns-clause-window
@@ -14,6 +14,7 @@ returns-clause-window g c =
     c.in_ok-receiver.field-0.1.items = search rules in
     let none = split_off (split_off (none_taken_in c.in_ok-tx.ensures.party) sender.rest)
     receiver.rest in
+    let all = take_in_receiver (take_in_sender none sender.new sent c.merge.ensures.merged)
+    receiver.new got c.merge-2.ensures.merged in
     let capacity = sym (ap (λ channel. channel.capacity) c.requires.named) ∙ c.requires.bounded in
-    at_most_ahead none sender.new sent c.merge.ensures.merged receiver.new got
-    c.merge-2.ensures.merged c.in-Some.ensures.whole capacity c.requires.capacity
+    left_within (exchanged_so_far all c.in-Some.ensures.whole) capacity c.requires.capacity
