@@ -7,8 +7,8 @@ use Rattle.flume_laws.proofs.GoOnLemmas.{exchanged_in_phases, one_behind_all}
 use Rattle.example_transfers.specs.Phases.{HasSentInPhases}
 use Rattle.example_transfers.proofs.phases.phases_named.Goals as goal
 
-pub returns-clause-phases : goal.returns-clause-phases
-returns-clause-phases g c =
+pub returns : goal.returns
+returns g c =
     let first = c.split_off.ensures in
     let second = c.split_off-2.ensures in
     let receiver = c.split_off-receiver.ensures in
@@ -26,4 +26,4 @@ returns-clause-phases g c =
     let whole = emptied c.in-Some-eq0.ensures.whole c.in-Some-eq0.field-0-test in
     let items = one_behind_all (c.args.second.now ∷ c.args.first.now ∷ [])
     (exchanged_in_phases all whole) in
-    (items.0, two_in_order items.1, items.2)
+    record { phases = (items.0, two_in_order items.1, items.2) }
