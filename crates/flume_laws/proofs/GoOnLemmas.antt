@@ -11,7 +11,7 @@ use Rattle.flume_laws.proofs.MergeLemmas.{leave_out}
 use Rattle.flume_laws.proofs.JoinLemmas.{only_right, right_first, joined, parted}
 use Rattle.flume_laws.proofs.PhaseLemmas.{in_phases}
 use Rattle.flume_laws.proofs.TakeInLemmas.{HasTakenIn, take_in, take_in_receiver}
-use Rattle.flume_laws.proofs.TakeInLemmas.{one_in_order}
+use Rattle.flume_laws.proofs.TakeInLemmas.{one_in_order, two_in_order}
 
 module _ {T A : Type 0} where
   -- A party that took in others, then made calls of its own, and then took in further ones: what the
@@ -198,3 +198,13 @@ module _ {T : Type 0} where
         all.4,
         sym (one_in_order all.8) ∙ (line ∙ ap (λ last. front ++ last) (one_in_order all.5)),
       )
+
+module _ {T A : Type 0} where
+  -- and if two sent early
+  pub one_behind_two : {party : PartyState (Action T A)} {one other third got : List T}
+      {capacity : Option ℕ} → HasGoneOn party (other ∷ one ∷ []) (third ∷ []) [] (got ∷ [])
+      → IsWhole capacity party.actions (Some 0)
+      → (early : List T) × Interleaving one other early × (got ≡ early ++ third)
+  one_behind_two {one = one} {other = other} all whole =
+      let items = one_behind_all (other ∷ one ∷ []) (exchanged_in_phases all whole) in
+      (items.0, two_in_order items.1, items.2)

@@ -1,9 +1,7 @@
-use Rattle.std.proofs.Common.{rules, [], ◌∷◌}
+use Rattle.std.proofs.Common.{rules, []}
 use Rattle.flume_actions.specs.Callers.{HasMadeCalls}
 use Rattle.flume_laws.proofs.TakeInLemmas.{none_taken_in, split_off, take_in_sender, emptied}
-use Rattle.flume_laws.proofs.TakeInLemmas.{two_in_order}
-use Rattle.flume_laws.proofs.GoOnLemmas.{go_on_sender, take_in_further_receiver}
-use Rattle.flume_laws.proofs.GoOnLemmas.{exchanged_in_phases, one_behind_all}
+use Rattle.flume_laws.proofs.GoOnLemmas.{go_on_sender, take_in_further_receiver, one_behind_two}
 use Rattle.example_transfers.specs.Phases.{HasSentInPhases}
 use Rattle.example_transfers.proofs.phases.phases_named.Goals as goal
 
@@ -24,6 +22,4 @@ returns g c =
     let all = take_in_further_receiver (go_on_sender early sent.sent) receiver.new got
     c.merge.ensures.merged in
     let whole = emptied c.in-Some-eq0.ensures.whole c.in-Some-eq0.field-0-test in
-    let items = one_behind_all (c.args.second.now ∷ c.args.first.now ∷ [])
-    (exchanged_in_phases all whole) in
-    record { phases = (items.0, two_in_order items.1, items.2) }
+    record { phases = one_behind_two all whole }
