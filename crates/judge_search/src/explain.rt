@@ -12,7 +12,6 @@ use crate::choice::Choice;
 use crate::paths::find_choices;
 use crate::replay::{Failure, make_choices};
 use crate::search::Found;
-use flume_core::error::NoMemory;
 use judge_calls::event::{Event, Item};
 use judge_calls::explanation::{Explained, check_explanation};
 use std::alloc::Allocator;
