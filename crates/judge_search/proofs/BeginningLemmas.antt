@@ -4,9 +4,8 @@ use Rattle.std.proofs.lemmas.List.{take_all}
 use Rattle.flume_model.specs.Log.{Opening}
 use Rattle.judge_calls.specs.declared.event.Event.{Event}
 use Rattle.judge_calls.specs.Explanations.{IsExplained}
-use Rattle.judge_calls.proofs.BeginningLemmas.{beginning_explained}
 use Rattle.judge_search.specs.Reached.{AreExplained}
-use Rattle.judge_search.specs.Search.{BreaksAfter, UnexplainedAfter}
+use Rattle.judge_search.specs.Search.{UnexplainedAfter}
 use Rattle.judge_search.proofs.ReachedEventLemmas.{further_explained}
 
 module _ {T A : Type 0} (equal : T → T → Bool) where
@@ -24,35 +23,6 @@ module _ {T A : Type 0} (equal : T → T → Bool) where
       → IsExplained equal o (take (length events) events) → ⊥
   all_not_on o events not_with_next explained = not_with_next
       (subst (IsExplained equal o) (take_all (length events) events (omega arith)) explained)
-
-  -- a beginning of a beginning
-  shorter : (events : List (Event T A)) (n count : ℕ) → count < length (take n events)
-      → take (count + 1) (take n events) ≡ take (count + 1) events
-  shorter events n count within = let size = length-take n events in take-take (count + 1) n events (omega arith)
-
-  -- if a beginning of the events stops being explained after so many, so do the events
-  pub breaks_on : (o : Opening) (events : List (Event T A)) (n count : ℕ) → BreaksAfter equal o (take n events) count
-      → BreaksAfter equal o events count
-  breaks_on o events n count breaks =
-      let size = length-take n events in
-      let within = breaks.is_within in
-      record {
-        is_within = omega arith;
-        before = subst (IsExplained equal o) (take-take count n events (omega arith)) breaks.before;
-        not_with_next = subst (λ e. IsExplained equal o e → ⊥) (shorter events n count within) breaks.not_with_next;
-      }
-
-  -- if so many are explained of a beginning of the events, and all of that aren't, so it is of the events
-  pub unexplained_on : (o : Opening) (events : List (Event T A)) (n count : ℕ) → UnexplainedAfter equal o (take n events) count
-      → UnexplainedAfter equal o events count
-  unexplained_on o events n count breaks =
-      let size = length-take n events in
-      let within = breaks.is_within in
-      record {
-        is_within = omega arith;
-        before = subst (IsExplained equal o) (take-take count n events (omega arith)) breaks.before;
-        not_all = λ explained. breaks.not_all (beginning_explained equal o events n explained);
-      }
 
   -- so many of a beginning of the events are so many of the events
   pub explained_on : (o : Opening) (events : List (Event T A)) (n count : ℕ) → AreExplained equal (take n events) o count

@@ -1,5 +1,5 @@
 //! Looks for an explanation of the events that threads recorded.
-ghost use Rattle.std.specs.Prelude.{◌≡◌, ◌≤◌, ◌<◌, ◌+◌, ℕ, length, take};
+ghost use Rattle.std.specs.Prelude.{◌≡◌, ◌≤◌, ℕ};
 ghost use Rattle.std.specs.declared.vec.Vec.{Vec};
 ghost use Rattle.flume_model.specs.Log.{opens};
 ghost use Rattle.judge_calls.specs.Explanations.{events_in, IsExplained};
@@ -10,15 +10,11 @@ ghost use Rattle.judge_search.specs.Search.{BreaksAfter, UnexplainedAfter};
 
 use crate::choice::Choice;
 use crate::paths::find_choices;
-use crate::refuted::refuted_at;
 use crate::replay::{Failure, make_choices};
 use crate::search::Found;
-use flume_core::error::NoMemory;
 use judge_calls::event::{Event, Item};
 use judge_calls::explanation::{Explained, check_explanation};
 use std::alloc::Allocator;
-
-const PATTERNS_AFTER: usize = 100_000;
 
 /// The result of a search for an explanation.
 #[derive(Drop)]
@@ -74,8 +70,7 @@ pub fn explain<T: Copy + Eq + Drop, A: Allocator + Copy>(
 
 /// Finds how many events are explained, the oldest first, on a channel of this capacity (`None`:
 /// unbounded). For all of them a guess and then a search enter at most `limit` configurations each
-/// after the first, and for fewer events a tenth. If 100,000 lead to no explanation, patterns that
-/// have none are looked for; without any, guess and search begin anew.
+/// after the first, and for fewer events a tenth; neither is tried on if a pattern refutes them.
 pub fn check_calls<T: Copy + Eq + Drop, A: Allocator + Copy>(
     alloc: A,
     capacity: Option<usize>,
@@ -91,76 +86,12 @@ pub fn check_calls<T: Copy + Eq + Drop, A: Allocator + Copy>(
     ensures gave_up { (count : ℕ) → result ≡ Checked.GaveUp count
         → AreExplained T.eq events.now (opens capacity 1) count }
 {
-    match check_within(alloc, capacity, events, limit, limit.min(PATTERNS_AFTER)) {
-        Checked::GaveUp(_) => check_long(alloc, capacity, events, limit),
-        checked => checked,
-    }
-}
-
-fn check_within<T: Copy + Eq + Drop, A: Allocator + Copy>(
-    alloc: A,
-    capacity: Option<usize>,
-    events: &[Event<T, A>],
-    limit: usize,
-    most: usize,
-) -> Checked
-    ensures explained { result ≡ Checked.Explained
-        → IsExplained T.eq (opens capacity 1) events.now }
-    ensures breaks { (count : ℕ) → result ≡ Checked.Breaks count
-        → BreaksAfter T.eq (opens capacity 1) events.now count }
-    ensures unexplained { (count : ℕ) → result ≡ Checked.Unexplained count
-        → UnexplainedAfter T.eq (opens capacity 1) events.now count }
-    ensures gave_up { (count : ℕ) → result ≡ Checked.GaveUp count
-        → AreExplained T.eq events.now (opens capacity 1) count }
-{
-    match find_choices(alloc, capacity, events, most) {
+    match find_choices(alloc, capacity, events, limit) {
         Found::Path(_) => Checked::Explained,
         Found::Nothing(place) => find_break(alloc, capacity, events, limit / 10, place),
         Found::NoMemory => Checked::NoMemory,
         Found::GaveUp(place) => Checked::GaveUp(place),
     }
-}
-
-// No explanation is found soon: patterns are cheaper than a long search.
-fn check_long<T: Copy + Eq + Drop, A: Allocator + Copy>(
-    alloc: A,
-    capacity: Option<usize>,
-    events: &[Event<T, A>],
-    limit: usize,
-) -> Checked
-    ensures explained { result ≡ Checked.Explained
-        → IsExplained T.eq (opens capacity 1) events.now }
-    ensures breaks { (count : ℕ) → result ≡ Checked.Breaks count
-        → BreaksAfter T.eq (opens capacity 1) events.now count }
-    ensures unexplained { (count : ℕ) → result ≡ Checked.Unexplained count
-        → UnexplainedAfter T.eq (opens capacity 1) events.now count }
-    ensures gave_up { (count : ℕ) → result ≡ Checked.GaveUp count
-        → AreExplained T.eq events.now (opens capacity 1) count }
-{
-    match refuted_at(alloc, events) {
-        Ok(Some(place)) => check_refuted(alloc, capacity, events, limit, place),
-        Ok(None) => check_within(alloc, capacity, events, limit, limit),
-        Err(NoMemory) => Checked::NoMemory,
-    }
-}
-
-fn check_refuted<T: Copy + Eq + Drop, A: Allocator + Copy>(
-    alloc: A,
-    capacity: Option<usize>,
-    events: &[Event<T, A>],
-    limit: usize,
-    place: usize,
-) -> Checked
-    requires within { place < length events.now }
-    requires refuted { IsExplained T.eq (opens capacity 1) (take (place + 1) events.now) → ⊥ }
-    ensures found { result ≡ Checked.Explained → ⊥ }
-    ensures breaks { (count : ℕ) → result ≡ Checked.Breaks count
-        → BreaksAfter T.eq (opens capacity 1) events.now count }
-    ensures unexplained { (count : ℕ) → result ≡ Checked.Unexplained count
-        → UnexplainedAfter T.eq (opens capacity 1) events.now count }
-    ensures decided { (count : ℕ) → result ≡ Checked.GaveUp count → ⊥ }
-{
-    find_break(alloc, capacity, &events[..=place], limit / 10, place)
 }
 
 fn explained_by<T: Copy + Eq + Drop, A: Allocator + Copy>(

@@ -9,6 +9,9 @@ use crate::tries::ChoiceOutcome;
 use judge_calls::event::Event;
 use std::alloc::Allocator;
 
+// A choice made this many configurations ago stays.
+const MOST_FRAMES: usize = 200;
+
 #[derive(Drop)]
 struct Guess<A: Allocator> {
     frames: Vec<Frame<A>, A>,
@@ -94,6 +97,9 @@ impl<A: Allocator + Copy> Guess<A> {
             choices,
             depth,
         };
+        if self.frames.len() == MOST_FRAMES {
+            let _ = self.frames.remove(0);
+        }
         self.frames.push(frame).ok()
     }
 

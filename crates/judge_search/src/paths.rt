@@ -9,18 +9,37 @@ ghost use Rattle.judge_search.specs.declared.choice.Choice.{Choice};
 use crate::choice::Choice;
 use crate::configuration::Configuration;
 use crate::guess::guess_path;
+use crate::refuted::refuted_at;
 use crate::replay::make_choices;
 use crate::search::{Found, find_path};
+use flume_core::error::NoMemory;
 use judge_calls::event::Event;
 use judge_calls::explanation::{Explained, check_explanation};
 use std::alloc::Allocator;
 
-const GUESSES_PER_EVENT: usize = 10;
+/// How many configurations a guess enters at most, if its caller allows as many.
+#[derive(Clone, Copy, Debug, Drop)]
+struct Most {
+    at_least: usize,
+    per_event: usize,
+}
 
-const GUESSED_AT_LEAST: usize = 10_000;
+// To look for patterns takes more than a guess if there are more events.
+const LONG: usize = 2_000;
 
-/// Choices that lead past all the events, on a channel of this capacity (`None`: unbounded). A
-/// guess, and then a search, enter at most `limit` configurations each after the first.
+const FIRST: Most = Most {
+    at_least: 1_000,
+    per_event: 2,
+};
+
+const SECOND: Most = Most {
+    at_least: 10_000,
+    per_event: 10,
+};
+
+/// Choices that lead past all the events, on a channel of this capacity (`None`: unbounded). If no
+/// pattern shows that there are none, a guess, and then a search, enter at most `limit`
+/// configurations each after the first. Of many events, a short guess comes before the patterns.
 pub fn find_choices<T: Copy + Eq + Drop, A: Allocator + Copy>(
     alloc: A,
     capacity: Option<usize>,
@@ -34,7 +53,32 @@ pub fn find_choices<T: Copy + Eq + Drop, A: Allocator + Copy>(
     ensures gave_up { (furthest : ℕ) → result ≡ Found.GaveUp furthest
         → AreExplained T.eq events.now (opens capacity 1) furthest }
 {
-    if let Some(path) = guess_choices(alloc, capacity, events, limit) {
+    if events.len() > LONG
+        && let Some(path) = guess_choices(alloc, capacity, events, limit, FIRST)
+    {
+        return Found::Path(path);
+    }
+    match refuted_at(alloc, events) {
+        Ok(Some(place)) => Found::Nothing(place),
+        Ok(None) => search_choices(alloc, capacity, events, limit),
+        Err(NoMemory) => Found::NoMemory,
+    }
+}
+
+fn search_choices<T: Copy + Eq + Drop, A: Allocator + Copy>(
+    alloc: A,
+    capacity: Option<usize>,
+    events: &[Event<T, A>],
+    limit: usize,
+) -> Found<A>
+    ensures path { (path : Vec Choice A) → result ≡ Found.Path path
+        → IsExplained T.eq (opens capacity 1) events.now }
+    ensures nothing { (furthest : ℕ) → result ≡ Found.Nothing furthest
+        → IsExplained T.eq (opens capacity 1) events.now → ⊥ }
+    ensures gave_up { (furthest : ℕ) → result ≡ Found.GaveUp furthest
+        → AreExplained T.eq events.now (opens capacity 1) furthest }
+{
+    if let Some(path) = guess_choices(alloc, capacity, events, limit, SECOND) {
         return Found::Path(path);
     }
     let start = Configuration::new(alloc, capacity);
@@ -46,14 +90,15 @@ fn guess_choices<T: Copy + Eq + Drop, A: Allocator + Copy>(
     capacity: Option<usize>,
     events: &[Event<T, A>],
     limit: usize,
+    most: Most,
 ) -> Option<Vec<Choice, A>>
     ensures explained { IfSome result (λ path.
         IsExplained T.eq (opens capacity 1) events.now) }
 {
     let most = events
         .len()
-        .saturating_mul(GUESSES_PER_EVENT)
-        .saturating_add(GUESSED_AT_LEAST);
+        .saturating_mul(most.per_event)
+        .saturating_add(most.at_least);
     let start = Configuration::new(alloc, capacity);
     let path = guess_path(alloc, start, events, limit.min(most))?;
     if are_explained_by(alloc, capacity, events, path.as_slice()) {

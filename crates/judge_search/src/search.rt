@@ -21,7 +21,7 @@ use std::alloc::Allocator;
 #[derive(Drop)]
 pub enum Found<A: Allocator> {
     Path(Vec<Choice, A>),
-    /// There is no path. The furthest configuration was before the event at this place.
+    /// There is no path: this is the place of a pattern, or the furthest that was come to.
     Nothing(usize),
     NoMemory,
     /// The limit was reached, with the furthest configuration before the event at this place.
@@ -59,9 +59,6 @@ pub fn find_path<T: Copy + Eq + Drop, A: Allocator + Copy>(
         → IsReached T.eq events.now opening 0 start → IsExplained T.eq opening events.now }
     ensures nothing { (furthest : ℕ) → result ≡ Found.Nothing furthest
         → IsDeadEnd T.eq events.now 0 start }
-    ensures furthest { (furthest : ℕ) → result ≡ Found.Nothing furthest → (opening : Opening)
-        → IsReached T.eq events.now opening 0 start
-        → AreExplained T.eq events.now opening furthest }
     ensures gave_up { (furthest : ℕ) → result ≡ Found.GaveUp furthest → (opening : Opening)
         → IsReached T.eq events.now opening 0 start
         → AreExplained T.eq events.now opening furthest }
@@ -112,9 +109,6 @@ impl<A: Allocator + Copy> Search<A> {
             → HasReached T.eq events.now opening self.new }
         ensures at_end { result ≡ Entered.AtEnd → (opening : Opening)
             → HasReached T.eq events.now opening self.old → IsExplained T.eq opening events.now }
-        ensures furthest { result ≡ Entered.Nowhere → (opening : Opening)
-            → HasReached T.eq events.now opening self.old
-            → AreExplained T.eq events.now opening self.new.furthest }
         ensures nowhere { result ≡ Entered.Nowhere → (start : State)
             → Searches T.eq events.now start (Unit {0}) self.old
             → IsDeadEnd T.eq events.now 0 start }
@@ -145,7 +139,6 @@ impl<A: Allocator + Copy> Search<A> {
             → result ≡ Next.Leads choice next index → (opening : Opening)
             → HasReached T.eq events.now opening self.old
             → IsReached T.eq events.now opening index next }
-        ensures furthest { self.new.furthest ≡ self.old.furthest }
         ensures nowhere { result ≡ Next.Nowhere → (start : State)
             → Searches T.eq events.now start (Unit {0}) self.old
             → IsDeadEnd T.eq events.now 0 start }

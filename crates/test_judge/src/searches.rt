@@ -46,6 +46,17 @@ fn another_message_is_received(rt: HostRuntime) {
 }
 
 #[test]
+fn an_answer_that_is_wrong_later_is_not_blamed_on_an_earlier_one(rt: HostRuntime) {
+    let events = [
+        begins(0, Call::TrySend(5)),
+        begins(1, Call::TryRecv),
+        returns(1, Answer::Got(5)),
+        returns(0, Answer::Full),
+    ];
+    is(&rt, (None, 100), &events, Checked::Breaks(3));
+}
+
+#[test]
 fn a_send_and_a_receive_that_overlap_meet_at_capacity_0(rt: HostRuntime) {
     let events = [
         begins(0, Call::Send(5)),

@@ -1,24 +1,12 @@
--- The start of a channel is reached. If nothing comes of it, nothing explains the events.
-use Rattle.std.proofs.Common.{◌≡◌, ℕ, sym, subst}
+-- If a beginning of the events is refuted, so are all of them.
+use Rattle.std.proofs.Common.{◌+◌, ◌≡◌, subst, take, IfSome}
 use Rattle.flume_model.specs.Log.{opens}
-use Rattle.judge_search.specs.Dead.{IsDeadEnd}
-use Rattle.judge_search.specs.Reached.{IsReached}
-use Rattle.judge_search.proofs.StartLemmas.{start_reached, unexplained}
+use Rattle.judge_calls.specs.Explanations.{IsExplained}
+use Rattle.judge_calls.proofs.BeginningLemmas.{beginning_explained}
 use Rattle.judge_search.proofs.paths.find_choices.Goals as goal
 
-pub returns-clause-path : goal.returns-clause-path
-returns-clause-path g c = λ path is.
-    c.find_path.ensures.path path is (opens c.args.capacity 1)
-    (subst (IsReached g.T.PartialEq.eq c.args.events.now (opens c.args.capacity 1) 0) (sym c.new-start.ensures.start)
-    (start_reached g.T.PartialEq.eq c.args.events.now c.args.capacity))
-
-pub returns-clause-nothing : goal.returns-clause-nothing
-returns-clause-nothing g c = λ furthest is.
-    unexplained g.T.PartialEq.eq c.args.events.now c.args.capacity 1
-    (subst (IsDeadEnd g.T.PartialEq.eq c.args.events.now 0) c.new-start.ensures.start (c.find_path.ensures.nothing furthest is))
-
-pub returns-clause-gave_up : goal.returns-clause-gave_up
-returns-clause-gave_up g c = λ furthest is.
-    c.find_path.ensures.gave_up furthest is (opens c.args.capacity 1)
-    (subst (IsReached g.T.PartialEq.eq c.args.events.now (opens c.args.capacity 1) 0) (sym c.new-start.ensures.start)
-    (start_reached g.T.PartialEq.eq c.args.events.now c.args.capacity))
+pub returns-in-Ok-Some-clause-nothing : goal.returns-in-Ok-Some-clause-nothing
+returns-in-Ok-Some-clause-nothing g c = λ furthest is explained.
+    subst (λ found. IfSome found (λ place. IsExplained g.T.PartialEq.eq (opens c.args.capacity 1) (take (place + 1) c.args.events.now) → ⊥))
+    c.in-Ok-Some.field-0-is (c.in-Ok-Some.ensures.refuted (opens c.args.capacity 1))
+    (beginning_explained g.T.PartialEq.eq (opens c.args.capacity 1) c.args.events.now (c.in-Ok-Some.place + 1) explained)

@@ -27,7 +27,6 @@ loop-init g c = record {
         (reached_explained g.T.PartialEq.eq c.args.events.now o 0 c.args.start (omega arith) r);
   }) r;
   at_end = λ is o r. c.enter-advance.ensures.at_end is o r;
-  furthest = λ is. absurd (c.enter-advance.ensures.not_nowhere is);
 }
 
 pub advance-advance-requires : goal.advance-advance-requires
@@ -49,16 +48,10 @@ loop-preserved g c =
       nowhere = λ is. c.advance-advance.ensures.nowhere is c.args.start (c.loop.invariant.goes_on going);
       reached = λ is o r. c.advance-advance.ensures.reached is o (c.loop.invariant.reached going o r);
       at_end = λ is o r. c.advance-advance.ensures.at_end is o (c.loop.invariant.reached going o r);
-      furthest = λ is o r. c.advance-advance.ensures.furthest is o (c.loop.invariant.reached going o r);
     }
 
 pub returns-in-Nowhere-clause-nothing : goal.returns-in-Nowhere-clause-nothing
 returns-in-Nowhere-clause-nothing g c = λ furthest is. c.loop.invariant.nowhere c.in-Nowhere.is
-
-pub returns-in-Nowhere-clause-furthest : goal.returns-in-Nowhere-clause-furthest
-returns-in-Nowhere-clause-furthest g c = λ furthest is o r.
-    let same : furthest ≡ c.loop.search.furthest = cc in
-    subst (AreExplained g.T.PartialEq.eq c.args.events.now o) (sym same) (c.loop.invariant.furthest c.in-Nowhere.is o r)
 
 pub returns-in-GoesOn-advance-clause-gave_up : goal.returns-in-GoesOn-advance-clause-gave_up
 returns-in-GoesOn-advance-clause-gave_up g c = λ furthest is o r.

@@ -3,7 +3,7 @@ use Rattle.judge_search.specs.declared.search.Entered.TheVariants.{GoesOn, AtEnd
 use Rattle.flume_model.specs.Log.{Opening}
 use Rattle.judge_calls.specs.Explanations.{IsExplained}
 use Rattle.judge_search.specs.Dead.{IsDeadEnd}
-use Rattle.judge_search.specs.Reached.{AreExplained, HasReached, IsReached}
+use Rattle.judge_search.specs.Reached.{HasReached, IsReached}
 use Rattle.judge_search.specs.Search.{Searches}
 use Rattle.judge_search.proofs.search.find_path.Given as goal
 
@@ -17,6 +17,4 @@ invariant-loop g l = record {
       → HasReached g.T.PartialEq.eq l.events opening l.search;
   at_end : l.advance ≡ AtEnd → (opening : Opening) → IsReached g.T.PartialEq.eq l.events opening 0 l.fn.start
       → IsExplained g.T.PartialEq.eq opening l.events;
-  furthest : l.advance ≡ Nowhere → (opening : Opening) → IsReached g.T.PartialEq.eq l.events opening 0 l.fn.start
-      → AreExplained g.T.PartialEq.eq l.events opening l.search.furthest;
 }

@@ -1,6 +1,5 @@
 -- If the search goes on, it enters that configuration.
-use Rattle.std.proofs.Common.{refl, sym, subst}
-use Rattle.judge_search.specs.Reached.{AreExplained}
+use Rattle.std.proofs.Common.{refl}
 use Rattle.judge_search.proofs.search.Search.advance.Goals as goal
 
 pub returns-else-is_err-clause-goes_on : goal.returns-else-is_err-clause-goes_on
@@ -20,7 +19,3 @@ returns-else-is_err-clause-reached g c = λ e o s.
 pub returns-else-is_err-clause-at_end : goal.returns-else-is_err-clause-at_end
 returns-else-is_err-clause-at_end g c = λ e o s.
     c.enter.ensures.at_end e o (c.in-Leads.ensures.reaches c.in-Leads.choice c.in-Leads.new c.in-Leads.at refl o s)
-
-pub returns-in-Nowhere-clause-furthest : goal.returns-in-Nowhere-clause-furthest
-returns-in-Nowhere-clause-furthest g c = λ is o s.
-    subst (AreExplained g.T.PartialEq.eq c.args.events.now o) (sym c.in-Nowhere.ensures.furthest) s.furthest

@@ -47,7 +47,6 @@ loop-frame-preserved g c = record {
             before.frames).0;
         furthest = before.furthest;
       };
-  furthest = c.loop-frame.invariant.furthest;
 }
 
 pub returns-clause-nowhere : goal.returns-clause-nowhere

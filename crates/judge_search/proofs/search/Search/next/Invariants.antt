@@ -1,4 +1,4 @@
-use Rattle.std.proofs.Common.{◌≡◌, vec_len}
+use Rattle.std.proofs.Common.{vec_len}
 use Rattle.flume_model.specs.Log.{Opening}
 use Rattle.judge_search.specs.Configurations.{State}
 use Rattle.judge_search.specs.Reached.{HasReached}
@@ -12,7 +12,6 @@ invariant-loop-frame g l = record {
       → Searches g.T.PartialEq.eq l.events start (Unit {0}) l.self;
   reached : (opening : Opening) → HasReached g.T.PartialEq.eq l.events opening l.fn.self
       → HasReached g.T.PartialEq.eq l.events opening l.self;
-  furthest : l.self.furthest ≡ l.fn.self.furthest;
 }
 
 abbrev pub decreases-loop-frame : goal.decreases-loop-frame

@@ -2,8 +2,8 @@
 use Rattle.std.proofs.Common.{◌≡◌, refl, sym, ◌∙◌, subst}
 use Rattle.flume_model.specs.Log.{opens}
 use Rattle.judge_search.specs.Reached.{AreExplained}
-use Rattle.judge_search.proofs.explain.check_within.Goals as goal
-use Rattle.judge_search.proofs.explain.check_within.Goals.{in-Path, in-Nothing, in-NoMemory, in-GaveUp}
+use Rattle.judge_search.proofs.explain.check_calls.Goals as goal
+use Rattle.judge_search.proofs.explain.check_calls.Goals.{in-Path, in-Nothing, in-NoMemory, in-GaveUp}
 
 pub find_break-requires : goal.find_break-requires
 find_break-requires g c =
