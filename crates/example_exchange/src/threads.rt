@@ -35,7 +35,6 @@ pub struct Halved<R: Waits, J: ChannelName, K: ChannelName> {
 }
 
 /// Sends each item, and drops the sender.
-#[tactic(auto, using(flume_laws::proofs::LoopLemmas::call_steps))]
 pub fn send_all<R: Waits, J: ChannelName>(
     tx: TracedSender<u64, R, J>,
     mut me: ChannelParty<u64, J>,
@@ -50,7 +49,6 @@ pub fn send_all<R: Waits, J: ChannelName>(
 }
 
 /// Receives until all senders are dropped, and nothing is left.
-#[tactic(auto, using(flume_laws::proofs::LoopLemmas::call_steps))]
 pub fn receive_all<R: Waits, J: ChannelName>(
     alloc: Global,
     rx: TracedReceiver<u64, R, J>,

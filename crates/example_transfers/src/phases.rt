@@ -24,7 +24,6 @@ pub struct Received<R: Waits, J: ChannelName> {
 }
 
 /// Sends each item, and drops the sender.
-#[tactic(auto, using(flume_laws::proofs::LoopLemmas::call_steps))]
 pub fn send_all<R: Waits, J: ChannelName>(
     tx: TracedSender<u64, R, J>,
     mut me: ChannelParty<u64, J>,
