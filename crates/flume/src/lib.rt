@@ -79,6 +79,7 @@ pub use builder::{Builder, on};
 pub use deadline_iter::DeadlineIter;
 pub use drain::Drain;
 pub use flume_audit::{audit, book, closed, differs, receipt, seat, weigh};
+pub use flume_calls::description::Description;
 pub use flume_calls::{calls, due, gates};
 pub use flume_core::error::{
     CapacityError, RecvError, RecvTimeoutError, SelectError, SendError, SendTimeoutError,

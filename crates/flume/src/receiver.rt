@@ -11,13 +11,14 @@ ghost use Rattle.flume.specs.CallSteps.{HasReplied};
 ghost use Rattle.flume.specs.CallSteps as answer;
 ghost use Rattle.flume.specs.GateSteps.{Receives};
 ghost use Rattle.flume.specs.Iterators.{after_drain};
-ghost use Rattle.flume.specs.LockedTurns.{HasCounted, HasMade};
+ghost use Rattle.flume.specs.LockedTurns.{HasCounted, HasDescribed, HasMade};
 ghost use Rattle.flume.specs.Iterators.{new_iter};
 
 use crate::drain::Drain;
 use crate::iterators::{Iter, TryIter};
 use crate::shared::{Shared, Waits};
 use crate::signal::Signal;
+use flume_calls::description::Description;
 use flume_calls::single::{CountQuery, EndStep, FlagQuery};
 use flume_core::error::{CapacityError, NoMemory, RecvError, RecvTimeoutError, TryRecvError};
 use flume_deadline::Deadline;
@@ -245,6 +246,13 @@ impl<T: Drop, R: Waits, A: Allocator + Copy, K: Keeper<T, A>> Receiver<T, R, A, 
             result }
     {
         self.shared.waiting_len()
+    }
+
+    /// As `Sender::describe`.
+    pub fn describe(&self) -> Description
+        ensures described { HasDescribed T A result }
+    {
+        self.shared.describe()
     }
 }
 

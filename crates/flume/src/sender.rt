@@ -10,11 +10,12 @@ ghost use Rattle.flume_deadline.specs.Deadlines.{IsAfter};
 ghost use Rattle.flume.specs.CallSteps.{HasReplied};
 ghost use Rattle.flume.specs.CallSteps as answer;
 ghost use Rattle.flume.specs.GateSteps.{Sends};
-ghost use Rattle.flume.specs.LockedTurns.{HasCounted, HasMade};
+ghost use Rattle.flume.specs.LockedTurns.{HasCounted, HasDescribed, HasMade};
 
 use crate::shared::{Shared, Waits};
 use crate::signal::Signal;
 use crate::weak::WeakSender;
+use flume_calls::description::Description;
 use flume_calls::single::{CountQuery, EndStep, FlagQuery};
 use flume_core::error::{CapacityError, NoMemory, SendError, SendTimeoutError, TrySendError};
 use flume_deadline::Deadline;
@@ -221,6 +222,20 @@ impl<T: Drop, R: Waits, A: Allocator + Copy, K: Keeper<T, A>> Sender<T, R, A, K>
             result }
     {
         self.shared.waiting_len()
+    }
+
+    /// What the channel holds and who uses it, at one moment. Doesn't allocate.
+    /// ```
+    /// let (tx, _rx) = flume::on(rt).bounded(4)?;
+    /// tx.send(7)?;
+    /// let description = tx.describe();
+    /// assert_eq!(rt; (description.len, description.capacity), (1, Some(4)));
+    /// assert_eq!(rt; (description.sender_count, description.receiver_count), (1, 1));
+    /// ```
+    pub fn describe(&self) -> Description
+        ensures described { HasDescribed T A result }
+    {
+        self.shared.describe()
     }
 }
 

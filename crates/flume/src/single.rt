@@ -6,10 +6,11 @@ ghost use Rattle.flume_model.specs.Parked.{entries};
 ghost use Rattle.flume_core.specs.PossibleReply.{PossibleReply};
 ghost use Rattle.flume_calls.specs.Singles.{end_step, count_query_step, flag_query_step};
 ghost use Rattle.flume.specs.CallSteps.{HasReplied};
-ghost use Rattle.flume.specs.LockedTurns.{HasCounted};
+ghost use Rattle.flume.specs.LockedTurns.{HasCounted, HasDescribed};
 
 use crate::shared::{Shared, Waits};
 use crate::signal::Signal;
+use flume_calls::description::Description;
 use flume_calls::single::{CapacityQuery, CountQuery, EndStep, FlagQuery};
 use flume_keeper::Keeper;
 use flume_model::step::{Reply, Step};
@@ -43,6 +44,15 @@ impl<T: Drop, R: Waits, A: Allocator + Copy, K: Keeper<T, A>> Shared<T, R, A, K>
         ensures made { HasReplied {T = T} {A = A} Step.Capacity (Reply.Capacity result) }
     {
         self.call_unowned(CapacityQuery)
+    }
+
+    pub(crate) fn describe(&self) -> Description
+        ensures described { HasDescribed T A result }
+    {
+        let guard = self.lock();
+        let locked = &guard.locked;
+        locked.facts();
+        locked.describe()
     }
 
     pub(crate) fn blocked_len(&self) -> usize

@@ -1,10 +1,12 @@
 //! Senders that don't keep their channel open.
 ghost use Rattle.std.specs.Prelude.{◌≡◌, ◌≢◌, ◌↔◌, ℕ, IfOk, IfSome, IsErr, Ok, Some, None};
 ghost use Rattle.flume.specs.CallSteps.{HasReplied, upgrade_reply};
+ghost use Rattle.flume.specs.LockedTurns.{HasDescribed};
 
 use crate::sender::Sender;
 use crate::shared::{Shared, Waits};
 use crate::signal::Signal;
+use flume_calls::description::Description;
 use flume_calls::single::EndStep;
 use flume_core::error::NoMemory;
 use flume_keeper::{Keeper, NoTrace};
@@ -55,6 +57,21 @@ impl<T: Drop, R: Waits, A: Allocator + Copy, K: Keeper<T, A>> WeakSender<T, R, A
         let shared = Arc::try_clone(&self.shared)?;
         let reply = shared.end_step(EndStep::CloneSender);
         upgrade_answer(reply, shared)
+    }
+
+    /// As `Sender::describe`. So a thread can look at a channel, and keep no end of it.
+    /// ```
+    /// let (tx, rx) = flume::on(rt).unbounded::<u64>()?;
+    /// let weak = tx.downgrade()?;
+    /// assert_eq!(rt; weak.describe().sender_count, 1);
+    /// drop(tx);
+    /// assert_eq!(rt; weak.describe().sender_count, 0);
+    /// assert_eq!(rt; rx.try_recv(), Err(TryRecvError::Disconnected));
+    /// ```
+    pub fn describe(&self) -> Description
+        ensures described { HasDescribed T A result }
+    {
+        self.shared.describe()
     }
 }
 

@@ -16,4 +16,5 @@ pub mod Polls
 pub mod PolledReceives
 pub mod PolledSends
 pub mod AtRest
+pub mod Descriptions
 pub mod NoCallWaits

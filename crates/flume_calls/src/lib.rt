@@ -12,6 +12,7 @@
 #![tactic(auto)]
 
 pub mod calls;
+pub mod description;
 pub mod due;
 pub mod gates;
 pub mod locked;

@@ -10,10 +10,12 @@ ghost use Rattle.flume_state.specs.Signals.{signal_of};
 ghost use Rattle.flume_core.specs.Represents.{IsReachable, Represents};
 ghost use Rattle.flume_core.specs.StateFacts.{ChannelFacts, NobodyIsStuck};
 ghost use Rattle.flume_calls.specs.AtRest.{IsAtRest, IsCallAtRest, IsLeft, NoneCounted};
+ghost use Rattle.flume_calls.specs.Descriptions.{Describes};
 ghost use Rattle.flume_calls.specs.EachIsRung.{EachIsRung};
 ghost use Rattle.flume_calls.specs.Polls.{IsPollCall, AtMostOneStep};
 ghost use Rattle.flume_calls.specs.NoCallWaits.{NoCallWaits};
 
+use crate::description::Description;
 use crate::due::{Bell, fire_due};
 use crate::polled::Polled;
 use crate::turn::Turn;
@@ -142,6 +144,38 @@ impl<T: Drop, S: Drop, A: Allocator + Copy> Locked<T, S, A> {
         ensures waiting { result ≡ waiting_count self.now.entries }
     {
         self.chan.waiting_len()
+    }
+
+    /// What the channel holds, and who uses it. No step.
+    /// ```
+    /// let mut locked: Locked<u64, u64, Global> = Locked::new(rt.alloc(), Some(4));
+    /// locked.make(FirstSend { message: 7 }, &mut bell);              // Done(Ok(()))
+    /// locked.describe().len;                                         // 1
+    /// locked.describe().capacity;                                    // Some(4)
+    /// ```
+    pub fn describe(&self) -> Description
+        ensures describes { Describes self.now result }
+    {
+        let Reply::Number(len) = self.chan.len() else {
+            unreachable!();
+        };
+        let Reply::Capacity(capacity) = self.chan.capacity() else {
+            unreachable!();
+        };
+        let Reply::Number(sender_count) = self.chan.sender_count() else {
+            unreachable!();
+        };
+        let Reply::Number(receiver_count) = self.chan.receiver_count() else {
+            unreachable!();
+        };
+        Description {
+            len,
+            capacity,
+            blocked_senders: self.chan.blocked_len(),
+            waiting_receivers: self.chan.waiting_len(),
+            sender_count,
+            receiver_count,
+        }
     }
 
     /// How many messages are queued or blocked. `None`: no end lives, or no `usize` is so great. No

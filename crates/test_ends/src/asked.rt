@@ -1,6 +1,6 @@
 //! What ends, futures, sinks and streams tell of their channel.
 use crate::fixtures::{channel, is, unwrap};
-use flume::{Receiver, Sender, Waits};
+use flume::{Description, Receiver, Sender, Waits};
 use futures::test::MockTask;
 
 // Each tells this of its channel, of capacity 2.
@@ -59,6 +59,48 @@ fn both_ends_count_the_sends_that_are_blocked_and_the_receives_that_wait(rt: Hos
     drop(second);
     is(&rt, task.poll(&mut third).is_pending(), true);
     is(&rt, parked(&tx, &rx), [(0, 1); 2]);
+}
+
+#[test]
+fn both_ends_and_a_weak_sender_describe_their_channel(rt: HostRuntime) {
+    let (tx, rx) = channel(&rt, (rt, rt.alloc()), Some(1));
+    let (weak, other) = (unwrap(&rt, tx.downgrade()), unwrap(&rt, tx.clone()));
+    let task = unwrap(&rt, MockTask::new(&rt));
+    let (mut send, mut receive) = (tx.send_async(2), rx.recv_async());
+    is(&rt, tx.try_send(1), Ok(()));
+    is(&rt, task.poll(&mut send).is_pending(), true);
+    let mut expected = Description {
+        len: 1,
+        capacity: Some(1),
+        blocked_senders: 1,
+        waiting_receivers: 0,
+        sender_count: 2,
+        receiver_count: 1,
+    };
+    is(
+        &rt,
+        [tx.describe(), rx.describe(), weak.describe()],
+        [expected; 3],
+    );
+    drop(send);
+    drop(other);
+    is(&rt, rx.try_recv(), Ok(1));
+    is(&rt, task.poll(&mut receive).is_pending(), true);
+    (
+        expected.len,
+        expected.blocked_senders,
+        expected.sender_count,
+    ) = (0, 0, 1);
+    expected.waiting_receivers = 1;
+    is(
+        &rt,
+        [tx.describe(), rx.describe(), weak.describe()],
+        [expected; 3],
+    );
+    drop(receive);
+    drop(tx);
+    (expected.waiting_receivers, expected.sender_count) = (0, 0);
+    is(&rt, [rx.describe(), weak.describe()], [expected; 2]);
 }
 
 #[test]
