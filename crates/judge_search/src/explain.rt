@@ -70,7 +70,7 @@ pub fn explain<T: Copy + Eq + Drop, A: Allocator + Copy>(
 
 /// Finds how many events are explained, the oldest first, on a channel of this capacity (`None`:
 /// unbounded). For all of them a guess and then a search enter at most `limit` configurations each
-/// after the first, and for fewer events a tenth; neither is tried on if a pattern refutes them.
+/// after the first, and for fewer events a tenth. A pattern that refutes them spares the search.
 pub fn check_calls<T: Copy + Eq + Drop, A: Allocator + Copy>(
     alloc: A,
     capacity: Option<usize>,

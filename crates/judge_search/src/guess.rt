@@ -8,13 +8,14 @@ use crate::happens::Forced;
 use crate::tries::ChoiceOutcome;
 use judge_calls::event::Event;
 use std::alloc::Allocator;
+use std::collections::VecDeque;
 
-// A choice made this many configurations ago stays.
+// Each frame has a copy of the channel. A choice whose frame is forgotten stays made.
 const MOST_FRAMES: usize = 200;
 
 #[derive(Drop)]
 struct Guess<A: Allocator> {
-    frames: Vec<Frame<A>, A>,
+    frames: VecDeque<Frame<A>, A>,
     chosen: Vec<Choice, A>,
     dead: DeadTable<A>,
     records: CallRecords<A>,
@@ -28,7 +29,7 @@ pub fn guess_path<T: Copy + Eq + Drop, A: Allocator + Copy>(
     limit: usize,
 ) -> Option<Vec<Choice, A>> {
     let mut guess = Guess {
-        frames: Vec::new(alloc),
+        frames: VecDeque::new(alloc),
         chosen: Vec::new(alloc),
         dead: DeadTable::new(alloc),
         records: CallRecords::new(alloc, events)?,
@@ -98,9 +99,9 @@ impl<A: Allocator + Copy> Guess<A> {
             depth,
         };
         if self.frames.len() == MOST_FRAMES {
-            let _ = self.frames.remove(0);
+            let _ = self.frames.pop_front();
         }
-        self.frames.push(frame).ok()
+        self.frames.push_back(frame).ok()
     }
 
     // `None`: no choice leads on, or an allocation failed.
@@ -109,12 +110,12 @@ impl<A: Allocator + Copy> Guess<A> {
         alloc: A,
         events: &[Event<T, A>],
     ) -> Option<(Configuration<A>, usize)> {
-        while let Some(mut frame) = self.frames.pop() {
+        while let Some(mut frame) = self.frames.pop_back() {
             match self.try_frame(alloc, events, &mut frame) {
                 Next::Leads(choice, new, at) => {
                     self.chosen.truncate(frame.depth);
                     self.chosen.push(choice).ok()?;
-                    self.frames.push(frame).ok()?;
+                    self.frames.push_back(frame).ok()?;
                     return Some((new, at));
                 }
                 Next::Nowhere => {

@@ -19,20 +19,20 @@ use std::alloc::Allocator;
 
 /// How many configurations a guess enters at most, if its caller allows as many.
 #[derive(Clone, Copy, Debug, Drop)]
-struct Most {
+struct GuessLimit {
     at_least: usize,
     per_event: usize,
 }
 
 // To look for patterns takes more than a guess if there are more events.
-const LONG: usize = 2_000;
+const MANY_EVENTS: usize = 2_000;
 
-const FIRST: Most = Most {
+const SHORT_GUESS: GuessLimit = GuessLimit {
     at_least: 1_000,
     per_event: 2,
 };
 
-const SECOND: Most = Most {
+const LONG_GUESS: GuessLimit = GuessLimit {
     at_least: 10_000,
     per_event: 10,
 };
@@ -53,8 +53,8 @@ pub fn find_choices<T: Copy + Eq + Drop, A: Allocator + Copy>(
     ensures gave_up { (furthest : ℕ) → result ≡ Found.GaveUp furthest
         → AreExplained T.eq events.now (opens capacity 1) furthest }
 {
-    if events.len() > LONG
-        && let Some(path) = guess_choices(alloc, capacity, events, limit, FIRST)
+    if events.len() > MANY_EVENTS
+        && let Some(path) = guess_choices(alloc, capacity, events, limit, SHORT_GUESS)
     {
         return Found::Path(path);
     }
@@ -78,7 +78,7 @@ fn search_choices<T: Copy + Eq + Drop, A: Allocator + Copy>(
     ensures gave_up { (furthest : ℕ) → result ≡ Found.GaveUp furthest
         → AreExplained T.eq events.now (opens capacity 1) furthest }
 {
-    if let Some(path) = guess_choices(alloc, capacity, events, limit, SECOND) {
+    if let Some(path) = guess_choices(alloc, capacity, events, limit, LONG_GUESS) {
         return Found::Path(path);
     }
     let start = Configuration::new(alloc, capacity);
@@ -90,15 +90,15 @@ fn guess_choices<T: Copy + Eq + Drop, A: Allocator + Copy>(
     capacity: Option<usize>,
     events: &[Event<T, A>],
     limit: usize,
-    most: Most,
+    guess: GuessLimit,
 ) -> Option<Vec<Choice, A>>
     ensures explained { IfSome result (λ path.
         IsExplained T.eq (opens capacity 1) events.now) }
 {
     let most = events
         .len()
-        .saturating_mul(most.per_event)
-        .saturating_add(most.at_least);
+        .saturating_mul(guess.per_event)
+        .saturating_add(guess.at_least);
     let start = Configuration::new(alloc, capacity);
     let path = guess_path(alloc, start, events, limit.min(most))?;
     if are_explained_by(alloc, capacity, events, path.as_slice()) {

@@ -21,7 +21,7 @@ use std::alloc::Allocator;
 #[derive(Drop)]
 pub enum Found<A: Allocator> {
     Path(Vec<Choice, A>),
-    /// There is no path: this is the place of a pattern, or the furthest that was come to.
+    /// There is no path. At this place a pattern was seen, or the search came no further.
     Nothing(usize),
     NoMemory,
     /// The limit was reached, with the furthest configuration before the event at this place.

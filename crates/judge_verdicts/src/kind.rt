@@ -1,7 +1,8 @@
 //! Tells a recording of calls from a history of steps.
 ghost use Rattle.std.specs.Prelude.{IsTrue, ◌≡◌, ◌↔◌};
 ghost use Rattle.std.specs.Str.Lines.{lines};
-ghost use Rattle.judge_verdicts.specs.Kinds.{IsRecording, first_word as word_of, has_colon as colon_in};
+ghost use Rattle.judge_verdicts.specs.Kinds.{IsRecording, first_word as word_of};
+ghost use Rattle.judge_verdicts.specs.Kinds.{has_colon as colon_in};
 
 use flume_script::reading::{next_line, part_at};
 
