@@ -61,6 +61,11 @@ fn both_ends_count_the_sends_that_are_blocked_and_the_receives_that_wait(rt: Hos
     is(&rt, parked(&tx, &rx), [(0, 1); 2]);
 }
 
+// Each describes its channel so.
+macro_rules! describe {
+    ($rt:expr, $expected:expr, $($it:expr),*) => {$(is($rt, $it.describe(), $expected);)*};
+}
+
 #[test]
 fn both_ends_and_a_weak_sender_describe_their_channel(rt: HostRuntime) {
     let (tx, rx) = channel(&rt, (rt, rt.alloc()), Some(1));
@@ -69,7 +74,7 @@ fn both_ends_and_a_weak_sender_describe_their_channel(rt: HostRuntime) {
     let (mut send, mut receive) = (tx.send_async(2), rx.recv_async());
     is(&rt, tx.try_send(1), Ok(()));
     is(&rt, task.poll(&mut send).is_pending(), true);
-    let mut expected = Description {
+    let full = Description {
         len: 1,
         capacity: Some(1),
         blocked_senders: 1,
@@ -77,30 +82,27 @@ fn both_ends_and_a_weak_sender_describe_their_channel(rt: HostRuntime) {
         sender_count: 2,
         receiver_count: 1,
     };
-    is(
-        &rt,
-        [tx.describe(), rx.describe(), weak.describe()],
-        [expected; 3],
-    );
+    describe!(&rt, full, tx, rx, weak);
     drop(send);
     drop(other);
     is(&rt, rx.try_recv(), Ok(1));
     is(&rt, task.poll(&mut receive).is_pending(), true);
-    (
-        expected.len,
-        expected.blocked_senders,
-        expected.sender_count,
-    ) = (0, 0, 1);
-    expected.waiting_receivers = 1;
-    is(
-        &rt,
-        [tx.describe(), rx.describe(), weak.describe()],
-        [expected; 3],
-    );
+    let empty = Description {
+        len: 0,
+        blocked_senders: 0,
+        waiting_receivers: 1,
+        sender_count: 1,
+        ..full
+    };
+    describe!(&rt, empty, tx, rx, weak);
     drop(receive);
     drop(tx);
-    (expected.waiting_receivers, expected.sender_count) = (0, 0);
-    is(&rt, [rx.describe(), weak.describe()], [expected; 2]);
+    let closed = Description {
+        waiting_receivers: 0,
+        sender_count: 0,
+        ..empty
+    };
+    describe!(&rt, closed, rx, weak);
 }
 
 #[test]
