@@ -66,41 +66,51 @@ macro_rules! describe {
     ($rt:expr, $expected:expr, $($it:expr),*) => {$(is($rt, $it.describe(), $expected);)*};
 }
 
+// A channel of capacity 1 with one sender and one receiver.
+const EMPTY: Description = Description {
+    len: 0,
+    capacity: Some(1),
+    blocked_senders: 0,
+    waiting_receivers: 0,
+    sender_count: 1,
+    receiver_count: 1,
+};
+
 #[test]
-fn both_ends_and_a_weak_sender_describe_their_channel(rt: HostRuntime) {
+fn both_ends_and_a_weak_sender_describe_a_full_channel(rt: HostRuntime) {
     let (tx, rx) = channel(&rt, (rt, rt.alloc()), Some(1));
-    let (weak, other) = (unwrap(&rt, tx.downgrade()), unwrap(&rt, tx.clone()));
+    let (weak, _other) = (unwrap(&rt, tx.downgrade()), unwrap(&rt, tx.clone()));
     let task = unwrap(&rt, MockTask::new(&rt));
-    let (mut send, mut receive) = (tx.send_async(2), rx.recv_async());
+    let mut send = tx.send_async(2);
     is(&rt, tx.try_send(1), Ok(()));
     is(&rt, task.poll(&mut send).is_pending(), true);
     let full = Description {
         len: 1,
-        capacity: Some(1),
         blocked_senders: 1,
-        waiting_receivers: 0,
         sender_count: 2,
-        receiver_count: 1,
+        ..EMPTY
     };
     describe!(&rt, full, tx, rx, weak);
-    drop(send);
-    drop(other);
-    is(&rt, rx.try_recv(), Ok(1));
+}
+
+#[test]
+fn they_describe_a_channel_on_which_a_receive_waits_and_one_without_a_sender(rt: HostRuntime) {
+    let (tx, rx): (Sender<u64, _>, _) = channel(&rt, (rt, rt.alloc()), Some(1));
+    let weak = unwrap(&rt, tx.downgrade());
+    let task = unwrap(&rt, MockTask::new(&rt));
+    let mut receive = rx.recv_async();
     is(&rt, task.poll(&mut receive).is_pending(), true);
-    let empty = Description {
-        len: 0,
-        blocked_senders: 0,
+    let waited_for = Description {
         waiting_receivers: 1,
-        sender_count: 1,
-        ..full
+        ..EMPTY
     };
-    describe!(&rt, empty, tx, rx, weak);
+    describe!(&rt, waited_for, tx, rx, weak);
     drop(receive);
+    describe!(&rt, EMPTY, tx, rx, weak);
     drop(tx);
     let closed = Description {
-        waiting_receivers: 0,
         sender_count: 0,
-        ..empty
+        ..EMPTY
     };
     describe!(&rt, closed, rx, weak);
 }
