@@ -54,7 +54,7 @@ pub struct Server<R: Waits, J: ChannelName, K: ChannelName, L: ChannelName> {
 
 /// Asks for the half of each number, and waits for the reply before it asks for the next. Drops the
 /// sender.
-#[tactic(auto, using(flume_laws::proofs::LoopLemmas::slice_steps))]
+#[tactic(auto, using(flume_laws::proofs::LoopLemmas::call_steps))]
 pub fn ask_all<R: Waits, J: ChannelName, K: ChannelName>(
     alloc: Global,
     tx: TracedSender<Question, R, J>,
@@ -85,7 +85,7 @@ pub fn ask_all<R: Waits, J: ChannelName, K: ChannelName>(
 }
 
 /// Sends half of the number to who asked.
-#[tactic(auto, using(flume_laws::proofs::LoopLemmas::slice_steps))]
+#[tactic(auto, using(flume_laws::proofs::LoopLemmas::one_call_steps))]
 fn reply<R: Waits, K: ChannelName, L: ChannelName>(
     question: Question,
     first: &mut Writer<R, K>,

@@ -36,7 +36,7 @@ pub struct Halved<R: Waits, J: ChannelName, K: ChannelName> {
 }
 
 /// Sends each item, and drops the sender.
-#[tactic(auto, using(flume_laws::proofs::LoopLemmas::slice_steps))]
+#[tactic(auto, using(flume_laws::proofs::LoopLemmas::call_steps))]
 pub fn send_all<R: Waits, J: ChannelName>(
     tx: TracedSender<u64, R, J>,
     mut me: ChannelParty<u64, J>,

@@ -125,8 +125,6 @@ module _ {T A : Type 0} where
   take_in_further {other = other} {got = got} before fresh did merge =
       let more = right_first _ _ _ _ _ before.merged merge.actions in
       let parts = before.further.parts + other.parts in
-      let one : Merged before.further other (party_of parts more.0) =
-      record { parts = refl; actions = more.1 } in
       record {
         before = before.before;
         after = before.after;
@@ -136,7 +134,7 @@ module _ {T A : Type 0} where
         gots_further = got ∷ before.gots_further;
         took = before.took;
         went = before.went;
-        rest = take_in one did fresh before.rest;
+        rest = take_in before.rest fresh did (record { parts = refl; actions = more.1 });
         merged = more.2;
         gots_are = ap (λ lists. got ∷ lists) before.gots_are;
       }
@@ -150,8 +148,6 @@ module _ {T A : Type 0} where
   take_in_further_receiver {other = other} {got = got} before fresh did merge =
       let more = right_first _ _ _ _ _ before.merged merge.actions in
       let parts = before.further.parts + other.parts in
-      let one : Merged before.further other (party_of parts more.0) =
-      record { parts = refl; actions = more.1 } in
       record {
         before = before.before;
         after = before.after;
@@ -161,7 +157,7 @@ module _ {T A : Type 0} where
         gots_further = got ∷ before.gots_further;
         took = before.took;
         went = before.went;
-        rest = take_in_receiver one did fresh before.rest;
+        rest = take_in_receiver before.rest fresh did (record { parts = refl; actions = more.1 });
         merged = more.2;
         gots_are = ap (λ lists. got ∷ lists) before.gots_are;
       }

@@ -65,9 +65,9 @@ module _ {T A : Type 0} where
 
   -- one is split off
   pub split_off : {party rest : PartyState (Action T A)} {parts : ℕ} {sents gots : List (List T)}
-      → rest ≡ party_of parts party.actions → HasTakenIn party sents gots
+      → HasTakenIn party sents gots → rest ≡ party_of parts party.actions
       → HasTakenIn rest sents gots
-  split_off {sents = sents} {gots = gots} rest before =
+  split_off {sents = sents} {gots = gots} before rest =
       subst (λ p. HasTakenIn p sents gots) (sym rest) (record {
         parties = before.parties;
         all_sents = before.all_sents;
@@ -81,10 +81,10 @@ module _ {T A : Type 0} where
 
   -- one that was new is taken in after its calls
   pub take_in : {party new other both : PartyState (Action T A)} {parts : ℕ} {sent got : List T}
-      {sents gots : List (List T)} → Merged party other both → HasMadeCalls new other sent got
-      → new ≡ party_of parts [] → HasTakenIn party sents gots
+      {sents gots : List (List T)} → HasTakenIn party sents gots → new ≡ party_of parts []
+      → HasMadeCalls new other sent got → Merged party other both
       → HasTakenIn both (sent ∷ sents) (got ∷ gots)
-  take_in {party = party} {both = both} merge did fresh before =
+  take_in {party = party} {both = both} before fresh did merge =
       let actions = ap (λ p. p.actions) did.made ∙ ap (λ p. p.actions ++ did.actions) fresh in
       record {
         parties = did.actions ∷ before.parties;
@@ -104,11 +104,12 @@ module _ {T A : Type 0} where
 
   -- one that only sent
   pub take_in_sender : {party new other both : PartyState (Action T A)} {parts : ℕ} {sent : List T}
-      {sents gots : List (List T)} → Merged party other both → HasMadeCalls new other sent []
-      → new ≡ party_of parts [] → HasTakenIn party sents gots → HasTakenIn both (sent ∷ sents) gots
+      {sents gots : List (List T)} → HasTakenIn party sents gots → new ≡ party_of parts []
+      → HasMadeCalls new other sent [] → Merged party other both
+      → HasTakenIn both (sent ∷ sents) gots
   unfolding take_in
-  take_in_sender {gots = gots} merge did fresh before =
-      let all = take_in merge did fresh before in
+  take_in_sender {gots = gots} before fresh did merge =
+      let all = take_in before fresh did merge in
       record {
         parties = all.parties;
         all_sents = all.all_sents;
@@ -122,11 +123,12 @@ module _ {T A : Type 0} where
 
   -- one that only received
   pub take_in_receiver : {party new other both : PartyState (Action T A)} {parts : ℕ} {got : List T}
-      {sents gots : List (List T)} → Merged party other both → HasMadeCalls new other [] got
-      → new ≡ party_of parts [] → HasTakenIn party sents gots → HasTakenIn both sents (got ∷ gots)
+      {sents gots : List (List T)} → HasTakenIn party sents gots → new ≡ party_of parts []
+      → HasMadeCalls new other [] got → Merged party other both
+      → HasTakenIn both sents (got ∷ gots)
   unfolding take_in
-  take_in_receiver {sents = sents} merge did fresh before =
-      let all = take_in merge did fresh before in
+  take_in_receiver {sents = sents} before fresh did merge =
+      let all = take_in before fresh did merge in
       record {
         parties = all.parties;
         all_sents = all.all_sents;
@@ -137,6 +139,17 @@ module _ {T A : Type 0} where
         got = all.got;
         few = omega (arith, before.few);
       }
+
+  -- a sender and a receiver are split off a party that did nothing, and taken in after their calls
+  pub two_taken_in : {opened rest other both all sender sent_by receiver got_by
+      : PartyState (Action T A)} {n m p q k : ℕ} {sent got : List T}
+      → opened ≡ party_of n [] → rest ≡ party_of m opened.actions → sender ≡ party_of p []
+      → other ≡ party_of q rest.actions → receiver ≡ party_of k []
+      → HasMadeCalls sender sent_by sent [] → HasMadeCalls receiver got_by [] got
+      → Merged other sent_by both → Merged both got_by all → HasTakenIn all (sent ∷ []) (got ∷ [])
+  two_taken_in opened first sender second receiver sent got merged all_merged =
+      let none = split_off (split_off (none_taken_in opened) first) second in
+      take_in_receiver (take_in_sender none sender sent merged) receiver got all_merged
 
   -- nothing is left
   pub emptied : {capacity : Option ℕ} {actions : List (Action T A)} {n : ℕ}
@@ -175,9 +188,6 @@ module _ {T A : Type 0} where
       → (weight : T → ℕ) → sum_over_all weight sents ≡ sum_over_all weight gots
   sums_kept all whole weight = same_sum weight _ _ (exchanged all whole)
 
--- what a party has taken in, by what was split off and merged
-pub ruleset take_in_steps = (none_taken_in, split_off, take_in_sender, take_in_receiver)
-
 module _ {T : Type 0} where
   -- one sender and one receiver
   pub same_in_order : {sent got : List T} → AreExchanged (sent ∷ []) (got ∷ []) → sent ≡ got
@@ -205,10 +215,3 @@ module _ {T : Type 0} where
   two_routed {first = first} {second = second} {left = left} {right = right} all =
       routed (first ∷ second ∷ []) (left ∷ right ∷ [])
       (all.0, first_two (two_in_order all.1), first_two (two_in_order all.2))
-
-module _ {T A : Type 0} where
-  -- one sender and one receiver, if the party that took in both knows that nothing is left
-  pub received : {party : PartyState (Action T A)} {sent got : List T} {capacity : Option ℕ} {n : ℕ}
-      → IsWhole capacity party.actions (Some n) → n ≡ 0
-      → HasTakenIn party (sent ∷ []) (got ∷ []) → got ≡ sent
-  received whole none all = sym (same_in_order (exchanged all (emptied whole none)))

@@ -15,10 +15,10 @@ returns g c =
     search rules in
     let got : HasMadeCalls c.split_off-receiver.result c.in_ok-got.got.me []
     c.in_ok-got.got.items.items = search rules in
-    let none = split_off receiver.rest (split_off second.rest (split_off first.rest (none_taken_in
-    c.in_ok-tx.ensures.party))) in
-    let early = take_in_sender sent.other_merged sent.other_sent second.new
-    (take_in_sender sent.one_merged sent.one_sent first.new none) in
+    let none = split_off (split_off (split_off (none_taken_in c.in_ok-tx.ensures.party) first.rest)
+    second.rest) receiver.rest in
+    let early = take_in_sender (take_in_sender none first.new sent.one_sent sent.one_merged)
+    second.new sent.other_sent sent.other_merged in
     let all = take_in_further_receiver (go_on_sender early sent.sent) receiver.new got
     c.merge.ensures.merged in
     let whole = emptied c.in-Some-eq0.ensures.whole c.in-Some-eq0.field-0-test in

@@ -12,9 +12,9 @@ returns g c =
     (λ sent got. one.1 + sum sent ≡ c.args.accounts.0 + sum got) = search rules in
     let right : HasMadeCallsWhere c.split_off-2.result other.0
     (λ sent got. other.1 + sum sent ≡ c.args.accounts.1 + sum got) = search rules in
-    let none = split_off c.split_off-2.ensures.rest (split_off c.split_off.ensures.rest
-    (none_taken_in c.in_ok-tx.ensures.party)) in
-    let all = take_in c.merge-2.ensures.merged right.calls c.split_off-2.ensures.new
-    (take_in c.merge.ensures.merged left.calls c.split_off.ensures.new none) in
+    let none = split_off (split_off (none_taken_in c.in_ok-tx.ensures.party)
+    c.split_off.ensures.rest) c.split_off-2.ensures.rest in
+    let all = take_in (take_in none c.split_off.ensures.new left.calls c.merge.ensures.merged)
+    c.split_off-2.ensures.new right.calls c.merge-2.ensures.merged in
     let whole = emptied c.in-Some-eq0.ensures.whole c.in-Some-eq0.field-0-test in
     record { kept = total_kept (λ x. x) _ _ _ _ left right (sums_kept all whole (λ x. x)) }
