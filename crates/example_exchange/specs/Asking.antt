@@ -1,40 +1,37 @@
 -- What clients ask a server, and what it replies to each.
-use Rattle.std.specs.Prelude.{ℕ, ◌/◌, Bool, true, false, if◌then◌else◌}
-use Rattle.std.specs.Prelude.{Option, Some, None, List, [], map}
+use Rattle.std.specs.Prelude.{ℕ, ◌/◌, Bool, true, false, List, [], map}
 use Rattle.std.specs.Bool.{beq}
-use Rattle.std.specs.List.{filter_map}
 use Rattle.flume_party.specs.Parties.{PartyState}
 use Rattle.flume_actions.specs.Actions.{Action}
 use Rattle.flume_actions.specs.Callers.{HasMadeCalls}
-use Rattle.flume.specs.ManyReceiveActions.{HasGot}
+use Rattle.flume_laws.specs.Forwards.{HasReplied}
 use Rattle.example_exchange.specs.declared.asking.Question.{Question}
 
--- a client's questions about these numbers
+-- a client's question about this number
+abbrev pub question_of : Bool → ℕ → Question
+question_of of_second number = record { of_second = of_second; number = number }
+
+-- its questions about these numbers
 abbrev pub questions_of : Bool → List ℕ → List Question
-questions_of of_second numbers =
-    map (λ number. record { of_second = of_second; number = number }) numbers
+questions_of of_second numbers = map (question_of of_second) numbers
 
--- the reply to a question, if this client asked it
-abbrev pub reply_to : Bool → Question → Option ℕ
-reply_to of_second question =
-    if beq question.of_second of_second then Some (question.number / 2) else None
+-- whether this client asked the question
+abbrev pub asked_by : Bool → Question → Bool
+asked_by of_second question = beq question.of_second of_second
 
--- the replies to those that this client asked, in their order
-abbrev pub replies_to : Bool → List Question → List ℕ
-replies_to of_second questions = filter_map (reply_to of_second) questions
+-- half of the number that a question is about
+abbrev pub half_of : Question → ℕ
+half_of question = question.number / 2
 
 module _ {A : Type 0} where
-  -- one party of a client asked about the numbers, its other one got what came behind the list
-  pub record HasAsked (of_second : Bool) (numbers : List ℕ)
-      (asker asker' : PartyState (Action Question A)) (reader reader' : PartyState (Action ℕ A))
-      (before after : List ℕ) : Type 0 where
-    pub asked : HasMadeCalls asker asker' (questions_of of_second numbers) []
-    pub got : HasGot reader reader' before after
+  -- one party of a client asked about the numbers, and its other one got these replies
+  abbrev pub HasAsked : Bool → List ℕ → (asker asker' : PartyState (Action Question A))
+      → (reader reader' : PartyState (Action ℕ A)) → List ℕ → Type 0
+  HasAsked of_second numbers asker asker' reader reader' replies =
+      HasMadeCalls asker asker' (questions_of of_second numbers) []
+      × HasMadeCalls reader reader' [] replies
 
   -- the server got some questions, and sent each client the replies to its own
-  pub record HasAnswered (reader reader' : PartyState (Action Question A))
-      (first first' second second' : PartyState (Action ℕ A)) : Type 0 where
-    pub questions : List Question
-    pub got : HasMadeCalls reader reader' [] questions
-    pub to_first : HasMadeCalls first first' (replies_to false questions) []
-    pub to_second : HasMadeCalls second second' (replies_to true questions) []
+  abbrev pub HasAnswered : (reader reader' : PartyState (Action Question A))
+      → (first first' second second' : PartyState (Action ℕ A)) → Type 0
+  HasAnswered = HasReplied (asked_by false) (asked_by true) half_of

@@ -2,8 +2,8 @@
 ghost use Rattle.std.specs.Prelude.{◌≡◌, true, false, [], ◌∷◌, IfOk};
 ghost use Rattle.flume_party.specs.Parties.{party_of};
 ghost use Rattle.flume_actions.specs.Callers.{HasMadeCalls};
-ghost use Rattle.flume.specs.ManyReceiveActions.{HasGot};
-ghost use Rattle.example_exchange.specs.Asking.{HasAsked, HasAnswered, replies_to};
+ghost use Rattle.flume_laws.specs.Forwards.{replies_to};
+ghost use Rattle.example_exchange.specs.Asking.{HasAsked, HasAnswered, asked_by, half_of};
 ghost use Rattle.example_exchange.specs.Halving.{halves};
 
 use crate::threads::Received;
@@ -29,6 +29,13 @@ pub struct Asked<R: Waits, J: ChannelName, K: ChannelName> {
     pub replies: Received<R, K>,
 }
 
+/// Who receives the replies to one client.
+#[derive(Drop)]
+pub struct Reader<R: Waits, K: ChannelName> {
+    pub rx: TracedReceiver<u64, R, K>,
+    pub me: ChannelParty<u64, K>,
+}
+
 /// Who sends replies to one client.
 #[derive(Drop)]
 pub struct Writer<R: Waits, K: ChannelName> {
@@ -47,35 +54,47 @@ pub struct Server<R: Waits, J: ChannelName, K: ChannelName, L: ChannelName> {
 
 /// Asks for the half of each number, and waits for the reply before it asks for the next. Drops the
 /// sender.
+#[tactic(auto, using(flume_laws::proofs::LoopLemmas::call_steps))]
 pub fn ask_all<R: Waits, J: ChannelName, K: ChannelName>(
+    alloc: Global,
     tx: TracedSender<Question, R, J>,
     mut me: ChannelParty<Question, J>,
-    mut replies: Received<R, K>,
+    reader: Reader<R, K>,
     of_second: bool,
     numbers: &[u64],
 ) -> io::Result<Asked<R, J, K>>
     ensures asked { IfOk result (λ r. HasAsked of_second numbers.now me r.me
-        replies.me r.replies.me replies.items.items r.replies.items.items) }
+        reader.me r.replies.me r.replies.items.items) }
 {
+    let Reader {
+        rx,
+        me: mut receiver,
+    } = reader;
+    let mut items = Vec::new(alloc);
     for number in numbers {
         let number = *number;
         tx.send(&mut me, Question { of_second, number })?;
-        let reply = replies.rx.recv(&mut replies.me)?;
-        replies.items.push(reply)?;
+        items.push(rx.recv(&mut receiver)?)?;
     }
+    let replies = Received {
+        rx,
+        me: receiver,
+        items,
+    };
     Ok(Asked { me, replies })
 }
 
 /// Sends half of the number to who asked.
+#[tactic(auto, using(flume_laws::proofs::LoopLemmas::one_call_steps))]
 fn reply<R: Waits, K: ChannelName, L: ChannelName>(
     question: Question,
     first: &mut Writer<R, K>,
     second: &mut Writer<R, L>,
 ) -> io::Result<()>
     ensures first { IfOk result (λ _. HasMadeCalls first.old.me first.new.me
-        (replies_to false (question ∷ [])) []) }
+        (replies_to (asked_by false) half_of (question ∷ [])) []) }
     ensures second { IfOk result (λ _. HasMadeCalls second.old.me second.new.me
-        (replies_to true (question ∷ [])) []) }
+        (replies_to (asked_by true) half_of (question ∷ [])) []) }
 {
     let half = question.number / 2;
     if question.of_second {
@@ -86,6 +105,7 @@ fn reply<R: Waits, K: ChannelName, L: ChannelName>(
 }
 
 /// Replies to each question, until all clients are gone.
+#[tactic(auto, using(flume_laws::proofs::ReplyLemmas::reply_steps))]
 pub fn reply_to_all<R: Waits, J: ChannelName, K: ChannelName, L: ChannelName>(
     rt: R,
     mut server: Server<R, J, K, L>,
@@ -106,10 +126,10 @@ pub fn reply_to_all<R: Waits, J: ChannelName, K: ChannelName, L: ChannelName>(
 /// Two clients ask, until both are done.
 fn ask_both<R, J, K, L>(
     rt: R,
+    alloc: Global,
     tx: TracedSender<Question, R, J>,
     parties: (ChannelParty<Question, J>, ChannelParty<Question, J>),
-    one: Received<R, K>,
-    other: Received<R, L>,
+    readers: (Reader<R, K>, Reader<R, L>),
     first: &[u64],
     second: &[u64],
 ) -> io::Result<(Asked<R, J, K>, Asked<R, J, L>)>
@@ -119,16 +139,16 @@ where
     K: ChannelName + Send + Sync,
     L: ChannelName + Send + Sync,
     ensures first { IfOk result (λ r. HasAsked false first.now parties.0 r.0.me
-        one.me r.0.replies.me one.items.items r.0.replies.items.items) }
+        readers.0.me r.0.replies.me r.0.replies.items.items) }
     ensures second { IfOk result (λ r. HasAsked true second.now parties.1 r.1.me
-        other.me r.1.replies.me other.items.items r.1.replies.items.items) }
+        readers.1.me r.1.replies.me r.1.replies.items.items) }
 {
-    let (a, b) = parties;
+    let ((a, b), (one, other)) = (parties, readers);
     let other_tx = tx.clone()?;
     let (one, other) = join(
         &rt,
-        || ask_all(tx, a, one, false, first),
-        || ask_all(other_tx, b, other, true, second),
+        || ask_all(alloc, tx, a, one, false, first),
+        || ask_all(alloc, other_tx, b, other, true, second),
     );
     Ok((one?, other?))
 }
@@ -144,10 +164,10 @@ struct Ran<R: Runtime, J: ChannelName, K: ChannelName, L: ChannelName> {
 /// Two clients ask, and one server replies.
 fn run<R, J, K, L>(
     rt: R,
+    alloc: Global,
     tx: TracedSender<Question, R, J>,
     parties: (ChannelParty<Question, J>, ChannelParty<Question, J>),
-    one: Received<R, K>,
-    other: Received<R, L>,
+    readers: (Reader<R, K>, Reader<R, L>),
     server: Server<R, J, K, L>,
     first: &[u64],
     second: &[u64],
@@ -158,15 +178,15 @@ where
     K: ChannelName + Send + Sync,
     L: ChannelName + Send + Sync,
     ensures first { IfOk result (λ r. HasAsked false first.now parties.0 r.one.me
-        one.me r.one.replies.me one.items.items r.one.replies.items.items) }
+        readers.0.me r.one.replies.me r.one.replies.items.items) }
     ensures second { IfOk result (λ r. HasAsked true second.now parties.1 r.other.me
-        other.me r.other.replies.me other.items.items r.other.replies.items.items) }
+        readers.1.me r.other.replies.me r.other.replies.items.items) }
     ensures answered { IfOk result (λ r. HasAnswered server.me r.server.me
         server.first.me r.server.first.me server.second.me r.server.second.me) }
 {
     let (asked, server) = join(
         &rt,
-        || ask_both(rt, tx, parties, one, other, first, second),
+        || ask_both(rt, alloc, tx, parties, readers, first, second),
         || reply_to_all(rt, server),
     );
     let (one, other) = asked?;
@@ -180,9 +200,10 @@ type Replies<R, K> = (Writer<R, K>, Received<R, K>);
 /// Two clients ask over a channel of this name. The server sends each the halves of its numbers.
 fn ask_over<R, J, K, L>(
     rt: R,
+    alloc: Global,
     questions: UnopenedChannel,
-    one: Replies<R, K>,
-    other: Replies<R, L>,
+    writers: (Writer<R, K>, Writer<R, L>),
+    readers: (Reader<R, K>, Reader<R, L>),
     first: &[u64],
     second: &[u64],
 ) -> io::Result<(Replies<R, K>, Replies<R, L>)>
@@ -193,25 +214,25 @@ where
     L: ChannelName + Send + Sync,
     requires named { questions ≡ J.identity }
     requires parts { questions.parts ≡ 4 }
-    ensures first { IfOk result (λ r. HasMadeCalls one.0.me r.0.0.me (halves first.now) []
-        × HasGot one.1.me r.0.1.me one.1.items.items r.0.1.items.items) }
-    ensures second { IfOk result (λ r. HasMadeCalls other.0.me r.1.0.me (halves second.now) []
-        × HasGot other.1.me r.1.1.me other.1.items.items r.1.1.items.items) }
+    ensures first { IfOk result (λ r. HasMadeCalls writers.0.me r.0.0.me (halves first.now) []
+        × HasMadeCalls readers.0.me r.0.1.me [] r.0.1.items.items) }
+    ensures second { IfOk result (λ r. HasMadeCalls writers.1.me r.1.0.me (halves second.now) []
+        × HasMadeCalls readers.1.me r.1.1.me [] r.1.1.items.items) }
 {
     let (tx, rx, mut all) = flume::on(rt).traced::<Question, J>(questions)?;
     let parties = (all.split_off(1), all.split_off(1));
-    let (to_first, one) = one;
-    let (to_second, other) = other;
+    let me = all.split_off(1);
+    let (first_writer, second_writer) = writers;
     let server = Server {
         rx,
-        me: all.split_off(1),
-        first: to_first,
-        second: to_second,
+        me,
+        first: first_writer,
+        second: second_writer,
     };
-    let Ran { one, other, server } = run(rt, tx, parties, one, other, server, first, second)?;
-    all.merge(server.me);
+    let Ran { one, other, server } = run(rt, alloc, tx, parties, readers, server, first, second)?;
     all.merge(one.me);
     all.merge(other.me);
+    all.merge(server.me);
     let Some(0) = server.rx.settle(&mut all) else {
         return Err(io::Error::new(ErrorKind::Other, "questions are left"));
     };
@@ -221,22 +242,24 @@ where
 /// Opens a channel of replies, for a writer, a reader, and the party that stays here.
 fn open_replies<R: Runtime, K: ChannelName>(
     rt: R,
-    alloc: Global,
     channel: UnopenedChannel,
-) -> io::Result<(Replies<R, K>, ChannelParty<u64, K>)>
+) -> io::Result<(Writer<R, K>, Reader<R, K>, ChannelParty<u64, K>)>
     requires named { channel ≡ K.identity }
     requires parts { channel.parts ≡ 3 }
-    ensures writer { IfOk result (λ r. r.0.0.me ≡ party_of 1 []) }
-    ensures reader { IfOk result (λ r. r.0.1.me ≡ party_of 1 []) }
-    ensures none { IfOk result (λ r. r.0.1.items.items ≡ []) }
-    ensures rest { IfOk result (λ r. r.1 ≡ party_of 1 []) }
+    ensures writer { IfOk result (λ r. r.0.me ≡ party_of 1 []) }
+    ensures reader { IfOk result (λ r. r.1.me ≡ party_of 1 []) }
+    ensures rest { IfOk result (λ r. r.2 ≡ party_of 1 []) }
 {
     let (tx, rx, mut all) = flume::on(rt).traced::<u64, K>(channel)?;
-    let me = all.split_off(1);
-    let writer = Writer { tx, me };
-    let me = all.split_off(1);
-    let items = Vec::new(alloc);
-    Ok(((writer, Received { rx, me, items }), all))
+    let writer = Writer {
+        tx,
+        me: all.split_off(1),
+    };
+    let reader = Reader {
+        rx,
+        me: all.split_off(1),
+    };
+    Ok((writer, reader, all))
 }
 
 /// The replies to two clients, over these three channels.
@@ -259,9 +282,13 @@ where
     ensures halved { IfOk result (λ r. (r.0.items ≡ halves first.now)
         × (r.1.items ≡ halves second.now)) }
 {
-    let (one, mut left) = open_replies::<R, K>(rt, alloc, replies.0)?;
-    let (other, mut right) = open_replies::<R, L>(rt, alloc, replies.1)?;
-    let (one, other) = ask_over::<R, J, K, L>(rt, questions, one, other, first, second)?;
+    let (to_first, from_first, mut left) = open_replies::<R, K>(rt, replies.0)?;
+    let (to_second, from_second, mut right) = open_replies::<R, L>(rt, replies.1)?;
+    let writers = (to_first, to_second);
+    let readers = (from_first, from_second);
+    let (one, other) = ask_over::<R, J, K, L>(
+        rt, alloc, questions, writers, readers, first, second,
+    )?;
     let (writer, one) = one;
     left.merge(writer.me);
     left.merge(one.me);

@@ -1,7 +1,8 @@
 //! Two threads in a row: one sends numbers, one halves them into a second channel.
 ghost use Rattle.std.specs.Prelude.{◌≡◌, [], IfOk};
 ghost use Rattle.flume_actions.specs.Callers.{HasMadeCalls};
-ghost use Rattle.example_exchange.specs.Halving.{halves, HasHalved};
+ghost use Rattle.flume_laws.specs.Forwards.{HasForwarded};
+ghost use Rattle.example_exchange.specs.Halving.{half, halves};
 
 use crate::threads::{Halved, Halver, halve_all, receive_all, send_all};
 use flume::Runtime;
@@ -25,7 +26,7 @@ where
     J: ChannelName + Send + Sync,
     K: ChannelName + Send + Sync,
     ensures sent { IfOk result (λ r. HasMadeCalls sender r.0 numbers.now []
-        × HasHalved halver.reader r.1.reader halver.writer r.1.writer) }
+        × HasForwarded half halver.reader r.1.reader halver.writer r.1.writer) }
 {
     let (sent, halved) = join(&rt, || send_all(tx, sender, numbers), || halve_all(halver));
     Ok((sent?, halved?))

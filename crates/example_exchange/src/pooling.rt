@@ -1,7 +1,8 @@
 //! A pool: two threads take numbers from one channel, and send the half of each into another.
 ghost use Rattle.std.specs.Prelude.{◌≡◌, [], IfOk, IsPermutation};
 ghost use Rattle.flume_actions.specs.Callers.{HasMadeCalls};
-ghost use Rattle.example_exchange.specs.Halving.{halves, HasHalved};
+ghost use Rattle.flume_laws.specs.Forwards.{HasForwarded};
+ghost use Rattle.example_exchange.specs.Halving.{half, halves};
 
 use crate::threads::{Halved, Halver, halve_all, receive_all, send_all};
 use flume::Runtime;
@@ -23,8 +24,8 @@ where
     J: ChannelName + Send + Sync,
     K: ChannelName + Send + Sync,
     ensures halved { IfOk result (λ r.
-        HasHalved first.reader r.0.reader first.writer r.0.writer
-        × HasHalved second.reader r.1.reader second.writer r.1.writer) }
+        HasForwarded half first.reader r.0.reader first.writer r.0.writer
+        × HasForwarded half second.reader r.1.reader second.writer r.1.writer) }
 {
     let (a, b) = join(&rt, || halve_all(first), || halve_all(second));
     Ok((a?, b?))
@@ -53,9 +54,9 @@ where
     K: ChannelName + Send + Sync,
     ensures sent { IfOk result (λ r. HasMadeCalls sender r.sender numbers.now []) }
     ensures first { IfOk result (λ r.
-        HasHalved first.reader r.first.reader first.writer r.first.writer) }
+        HasForwarded half first.reader r.first.reader first.writer r.first.writer) }
     ensures second { IfOk result (λ r.
-        HasHalved second.reader r.second.reader second.writer r.second.writer) }
+        HasForwarded half second.reader r.second.reader second.writer r.second.writer) }
 {
     let (sent, halved) = join(
         &rt,

@@ -1,7 +1,8 @@
 //! What a thread does with an end of a channel, and with a party of its own.
 ghost use Rattle.std.specs.Prelude.{[], IfOk};
 ghost use Rattle.flume_actions.specs.Callers.{HasMadeCalls};
-ghost use Rattle.example_exchange.specs.Halving.{HasHalved};
+ghost use Rattle.flume_laws.specs.Forwards.{HasForwarded};
+ghost use Rattle.example_exchange.specs.Halving.{half};
 
 use flume::traced::{ChannelName, ChannelParty, TracedReceiver, TracedSender};
 use flume::{RecvError, Waits};
@@ -35,6 +36,7 @@ pub struct Halved<R: Waits, J: ChannelName, K: ChannelName> {
 }
 
 /// Sends each item, and drops the sender.
+#[tactic(auto, using(flume_laws::proofs::LoopLemmas::call_steps))]
 pub fn send_all<R: Waits, J: ChannelName>(
     tx: TracedSender<u64, R, J>,
     mut me: ChannelParty<u64, J>,
@@ -49,6 +51,7 @@ pub fn send_all<R: Waits, J: ChannelName>(
 }
 
 /// Receives until all senders are dropped, and nothing is left.
+#[tactic(auto, using(flume_laws::proofs::LoopLemmas::call_steps))]
 pub fn receive_all<R: Waits, J: ChannelName>(
     alloc: Global,
     rx: TracedReceiver<u64, R, J>,
@@ -67,10 +70,12 @@ pub fn receive_all<R: Waits, J: ChannelName>(
 }
 
 /// Sends half of each number that it receives, until all senders of those are dropped.
+#[tactic(auto, using(flume_laws::proofs::ForwardLemmas::forward_steps))]
 pub fn halve_all<R: Waits, J: ChannelName, K: ChannelName>(
     halver: Halver<R, J, K>,
 ) -> io::Result<Halved<R, J, K>>
-    ensures halved { IfOk result (λ r. HasHalved halver.reader r.reader halver.writer r.writer) }
+    ensures halved { IfOk result (λ r. HasForwarded half halver.reader r.reader
+        halver.writer r.writer) }
 {
     let Halver {
         rt,

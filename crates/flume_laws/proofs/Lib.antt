@@ -64,3 +64,7 @@ pub mod LoopLemmas
 pub mod InvariantLemmas
 -- What callers cite: a party that made calls, and then confirmed.
 pub mod ConfirmLemmas
+-- What callers cite: a thread that sends what it makes of what it gets, and what comes out of it.
+pub mod ForwardLemmas
+-- What callers cite: clients that ask one server, and what it replies to each.
+pub mod ReplyLemmas

@@ -9,6 +9,11 @@ use Rattle.flume_actions.specs.Callers.{HasMadeCalls}
 use Rattle.flume_actions.proofs.CallerLemmas.{no_call, and_call}
 
 module _ {T A : Type 0} where
+  -- one call alone
+  pub one_call : {old new : PartyState (Action T A)} {sent got : List T}
+      → HasCalled old new sent got → HasMadeCalls old new sent got
+  one_call {old = old} call = and_call (no_call old) call refl refl
+
   -- a call more, which only sent
   pub and_sent : {old new new' : PartyState (Action T A)} {sent more got : List T}
       → HasMadeCalls old new sent got → HasCalled new new' more []
@@ -29,3 +34,6 @@ module _ {T A : Type 0} where
 
 -- before the loop, and after one more call
 pub ruleset call_steps = (common_steps, no_call, and_sent, and_got, and_nothing)
+
+-- a function that makes one call, or none
+pub ruleset one_call_steps = (common_steps, no_call, one_call)

@@ -140,6 +140,17 @@ module _ {T A : Type 0} where
         few = omega (arith, before.few);
       }
 
+  -- a sender and a receiver are split off a party that did nothing, and taken in after their calls
+  pub two_taken_in : {opened rest other both all sender sent_by receiver got_by
+      : PartyState (Action T A)} {n m p q k : ℕ} {sent got : List T}
+      → opened ≡ party_of n [] → rest ≡ party_of m opened.actions → sender ≡ party_of p []
+      → other ≡ party_of q rest.actions → receiver ≡ party_of k []
+      → HasMadeCalls sender sent_by sent [] → HasMadeCalls receiver got_by [] got
+      → Merged other sent_by both → Merged both got_by all → HasTakenIn all (sent ∷ []) (got ∷ [])
+  two_taken_in opened first sender second receiver sent got merged all_merged =
+      let none = split_off (split_off (none_taken_in opened) first) second in
+      take_in_receiver (take_in_sender none sender sent merged) receiver got all_merged
+
   -- nothing is left
   pub emptied : {capacity : Option ℕ} {actions : List (Action T A)} {n : ℕ}
       → IsWhole capacity actions (Some n) → n ≡ 0 → IsWhole capacity actions (Some 0)

@@ -1,3 +1,4 @@
 pub mod Together
 pub mod Invariants
+pub mod Forwards
 pub mod Offered

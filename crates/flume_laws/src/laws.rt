@@ -1,6 +1,7 @@
 //! Laws of what parties did. These functions do nothing: each contract is a law.
-ghost use Rattle.std.specs.Prelude.{◌≡◌, ℕ, List, ◌++◌, length, Option, Some, Err};
-ghost use Rattle.std.specs.List.{All, Contains};
+ghost use Rattle.std.specs.Prelude.{◌≡◌, ℕ, Bool, true, not, List, [], ◌∷◌, ◌++◌, length};
+ghost use Rattle.std.specs.Prelude.{Option, Some, Err};
+ghost use Rattle.std.specs.List.{All, Contains, filter, list_all};
 ghost use Rattle.flume_party.specs.Interleavings.{Interleaving};
 ghost use Rattle.flume_error.specs.Messages.{send_timeout_message};
 ghost use Rattle.flume_core.specs.declared.error.SendTimeoutError.{SendTimeoutError};
@@ -45,6 +46,17 @@ pub fn each_pair_keeps_its_order<T>()
 pub fn every_sum_is_kept<T>()
     ensures law { (weight : T → ℕ) (sents gots : List (List T)) → AreExchanged sents gots
         → sum_over_all weight sents ≡ sum_over_all weight gots }
+{}
+
+/// Several clients ask one server: what some parties sent is what one party got. If all requests of
+/// one client pass a test, and none of the others does, then those that pass, in the order in which
+/// the server got them, are what this client asked, in its order. So if the server sends it a reply
+/// to each of those, it gets the replies to its own requests, in order.
+pub fn requests_are_told_apart<T>()
+    ensures law { (test : T → Bool) (before after : List (List T)) (own got : List T)
+        → AreExchanged (before ++ own ∷ after) (got ∷ []) → list_all test own ≡ true
+        → list_all (list_all (λ x. not (test x))) (before ++ after) ≡ true
+        → filter test got ≡ own }
 {}
 
 /// Suppose that some parties made their actions before others began with theirs, that each party

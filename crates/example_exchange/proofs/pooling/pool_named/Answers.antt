@@ -1,6 +1,7 @@
 use Rattle.flume_laws.proofs.TakeInLemmas.{none_taken_in, split_off, take_in_sender, emptied}
 use Rattle.flume_laws.proofs.TakeInLemmas.{take_in_receiver, exchanged}
-use Rattle.example_exchange.proofs.PoolLemmas.{pooled}
+use Rattle.flume_laws.proofs.ForwardLemmas.{pooled}
+use Rattle.example_exchange.specs.Halving.{half}
 use Rattle.example_exchange.proofs.pooling.pool_named.Goals as goal
 
 pub returns : goal.returns
@@ -25,4 +26,4 @@ returns g c =
     c.merge-6.ensures.merged in
     let first_whole = emptied c.in-Some-eq0.ensures.whole c.in-Some-eq0.field-0-test in
     let second_whole = emptied c.in-Some-eq0-settle.ensures.whole c.in-Some-eq0-settle.field-0-test in
-    record { halved = pooled (exchanged left first_whole) (exchanged right second_whole) }
+    record { halved = pooled half (exchanged left first_whole) (exchanged right second_whole) }

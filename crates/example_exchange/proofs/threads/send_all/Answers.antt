@@ -1,10 +1,7 @@
 use Rattle.std.proofs.Common.{refl, arith}
 use Rattle.std.proofs.lemmas.Grind.{common_steps}
-use Rattle.flume_actions.proofs.CallerLemmas.{no_call, and_call}
+use Rattle.flume_actions.proofs.CallerLemmas.{and_call}
 use Rattle.example_exchange.proofs.threads.send_all.Goals as goal
-
-pub loop-item-init : goal.loop-item-init
-loop-item-init g c = no_call c.args.me
 
 pub loop-item-preserved : goal.loop-item-preserved
 loop-item-preserved g c =
