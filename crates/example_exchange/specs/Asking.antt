@@ -1,10 +1,9 @@
 -- What clients ask a server, and what it replies to each.
-use Rattle.std.specs.Prelude.{ℕ, ◌/◌, Bool, true, false, List, [], map}
-use Rattle.std.specs.Bool.{beq}
+use Rattle.std.specs.Prelude.{ℕ, ◌/◌, Bool, List, [], map}
 use Rattle.flume_party.specs.Parties.{PartyState}
 use Rattle.flume_actions.specs.Actions.{Action}
 use Rattle.flume_actions.specs.Callers.{HasMadeCalls}
-use Rattle.flume_laws.specs.Forwards.{HasReplied}
+use Rattle.flume_laws.specs.Forwards.{HasServed}
 use Rattle.example_exchange.specs.declared.asking.Question.{Question}
 
 -- a client's question about this number
@@ -15,9 +14,9 @@ question_of of_second number = record { of_second = of_second; number = number }
 abbrev pub questions_of : Bool → List ℕ → List Question
 questions_of of_second numbers = map (question_of of_second) numbers
 
--- whether this client asked the question
-abbrev pub asked_by : Bool → Question → Bool
-asked_by of_second question = beq question.of_second of_second
+-- whether the second client asked the question
+abbrev pub is_of_second : Question → Bool
+is_of_second question = question.of_second
 
 -- half of the number that a question is about
 abbrev pub half_of : Question → ℕ
@@ -34,4 +33,4 @@ module _ {A : Type 0} where
   -- the server got some questions, and sent each client the replies to its own
   abbrev pub HasAnswered : (reader reader' : PartyState (Action Question A))
       → (first first' second second' : PartyState (Action ℕ A)) → Type 0
-  HasAnswered = HasReplied (asked_by false) (asked_by true) half_of
+  HasAnswered = HasServed is_of_second half_of

@@ -1,9 +1,9 @@
 //! Requests and replies: two clients ask one server. Each has a channel of its own for the replies.
-ghost use Rattle.std.specs.Prelude.{◌≡◌, true, false, [], ◌∷◌, IfOk};
+ghost use Rattle.std.specs.Prelude.{◌≡◌, true, false, not, [], ◌∷◌, IfOk};
 ghost use Rattle.flume_party.specs.Parties.{party_of};
 ghost use Rattle.flume_actions.specs.Callers.{HasMadeCalls};
 ghost use Rattle.flume_laws.specs.Forwards.{replies_to};
-ghost use Rattle.example_exchange.specs.Asking.{HasAsked, HasAnswered, asked_by, half_of};
+ghost use Rattle.example_exchange.specs.Asking.{HasAsked, HasAnswered, is_of_second, half_of};
 ghost use Rattle.example_exchange.specs.Halving.{halves};
 
 use crate::threads::Received;
@@ -92,9 +92,9 @@ fn reply<R: Waits, K: ChannelName, L: ChannelName>(
     second: &mut Writer<R, L>,
 ) -> io::Result<()>
     ensures first { IfOk result (λ _. HasMadeCalls first.old.me first.new.me
-        (replies_to (asked_by false) half_of (question ∷ [])) []) }
+        (replies_to (λ asked. not (is_of_second asked)) half_of (question ∷ [])) []) }
     ensures second { IfOk result (λ _. HasMadeCalls second.old.me second.new.me
-        (replies_to (asked_by true) half_of (question ∷ [])) []) }
+        (replies_to is_of_second half_of (question ∷ [])) []) }
 {
     let half = question.number / 2;
     if question.of_second {
@@ -213,15 +213,14 @@ where
     K: ChannelName + Send + Sync,
     L: ChannelName + Send + Sync,
     requires named { questions ≡ J.identity }
-    requires parts { questions.parts ≡ 4 }
+    requires parts { questions.parts ≡ 3 }
     ensures first { IfOk result (λ r. HasMadeCalls writers.0.me r.0.0.me (halves first.now) []
         × HasMadeCalls readers.0.me r.0.1.me [] r.0.1.items.items) }
     ensures second { IfOk result (λ r. HasMadeCalls writers.1.me r.1.0.me (halves second.now) []
         × HasMadeCalls readers.1.me r.1.1.me [] r.1.1.items.items) }
 {
-    let (tx, rx, mut all) = flume::on(rt).traced::<Question, J>(questions)?;
-    let parties = (all.split_off(1), all.split_off(1));
-    let me = all.split_off(1);
+    let (tx, rx, mut me) = flume::on(rt).traced::<Question, J>(questions)?;
+    let parties = (me.split_off(1), me.split_off(1));
     let (first_writer, second_writer) = writers;
     let server = Server {
         rx,
@@ -229,37 +228,35 @@ where
         first: first_writer,
         second: second_writer,
     };
-    let Ran { one, other, server } = run(rt, alloc, tx, parties, readers, server, first, second)?;
-    all.merge(one.me);
-    all.merge(other.me);
-    all.merge(server.me);
-    let Some(0) = server.rx.settle(&mut all) else {
+    let Ran {
+        one,
+        other,
+        mut server,
+    } = run(rt, alloc, tx, parties, readers, server, first, second)?;
+    server.me.merge(one.me);
+    server.me.merge(other.me);
+    let Some(0) = server.rx.settle(&mut server.me) else {
         return Err(io::Error::new(ErrorKind::Other, "questions are left"));
     };
     Ok(((server.first, one.replies), (server.second, other.replies)))
 }
 
-/// Opens a channel of replies, for a writer, a reader, and the party that stays here.
+/// Opens a channel of replies, for a writer and a reader.
 fn open_replies<R: Runtime, K: ChannelName>(
     rt: R,
     channel: UnopenedChannel,
-) -> io::Result<(Writer<R, K>, Reader<R, K>, ChannelParty<u64, K>)>
+) -> io::Result<(Writer<R, K>, Reader<R, K>)>
     requires named { channel ≡ K.identity }
-    requires parts { channel.parts ≡ 3 }
+    requires parts { channel.parts ≡ 2 }
     ensures writer { IfOk result (λ r. r.0.me ≡ party_of 1 []) }
     ensures reader { IfOk result (λ r. r.1.me ≡ party_of 1 []) }
-    ensures rest { IfOk result (λ r. r.2 ≡ party_of 1 []) }
 {
-    let (tx, rx, mut all) = flume::on(rt).traced::<u64, K>(channel)?;
+    let (tx, rx, mut me) = flume::on(rt).traced::<u64, K>(channel)?;
     let writer = Writer {
         tx,
-        me: all.split_off(1),
+        me: me.split_off(1),
     };
-    let reader = Reader {
-        rx,
-        me: all.split_off(1),
-    };
-    Ok((writer, reader, all))
+    Ok((writer, Reader { rx, me }))
 }
 
 /// The replies to two clients, over these three channels.
@@ -278,27 +275,25 @@ where
     L: ChannelName + Send + Sync,
     requires named { (questions ≡ J.identity) × (replies.0 ≡ K.identity)
         × (replies.1 ≡ L.identity) }
-    requires parts { (questions.parts ≡ 4) × (replies.0.parts ≡ 3) × (replies.1.parts ≡ 3) }
+    requires parts { (questions.parts ≡ 3) × (replies.0.parts ≡ 2) × (replies.1.parts ≡ 2) }
     ensures halved { IfOk result (λ r. (r.0.items ≡ halves first.now)
         × (r.1.items ≡ halves second.now)) }
 {
-    let (to_first, from_first, mut left) = open_replies::<R, K>(rt, replies.0)?;
-    let (to_second, from_second, mut right) = open_replies::<R, L>(rt, replies.1)?;
+    let (to_first, from_first) = open_replies::<R, K>(rt, replies.0)?;
+    let (to_second, from_second) = open_replies::<R, L>(rt, replies.1)?;
     let writers = (to_first, to_second);
     let readers = (from_first, from_second);
     let (one, other) = ask_over::<R, J, K, L>(
         rt, alloc, questions, writers, readers, first, second,
     )?;
-    let (writer, one) = one;
-    left.merge(writer.me);
-    left.merge(one.me);
-    let (writer, other) = other;
-    right.merge(writer.me);
-    right.merge(other.me);
-    let Some(0) = one.rx.settle(&mut left) else {
+    let (writer, mut one) = one;
+    one.me.merge(writer.me);
+    let (writer, mut other) = other;
+    other.me.merge(writer.me);
+    let Some(0) = one.rx.settle(&mut one.me) else {
         return Err(io::Error::new(ErrorKind::Other, "replies are left"));
     };
-    let Some(0) = other.rx.settle(&mut right) else {
+    let Some(0) = other.rx.settle(&mut other.me) else {
         return Err(io::Error::new(ErrorKind::Other, "replies are left"));
     };
     Ok((one.items, other.items))
@@ -315,10 +310,10 @@ pub fn ask<R: Runtime>(
     ensures halved { IfOk result (λ r. (r.0.items ≡ halves first.now)
         × (r.1.items ≡ halves second.now)) }
 {
-    let questions = UnopenedChannel::bounded(1, 4);
+    let questions = UnopenedChannel::bounded(1, 3);
     let replies = (
-        UnopenedChannel::bounded(1, 3),
-        UnopenedChannel::bounded(1, 3),
+        UnopenedChannel::bounded(1, 2),
+        UnopenedChannel::bounded(1, 2),
     );
     ask_named::<R, Brand, Brand, Brand>(rt, alloc, questions, replies, first, second)
 }

@@ -63,27 +63,27 @@ pub fn exchange_named<J: ChannelName + Send + Sync, R: Runtime>(
     second: &[u64],
 ) -> io::Result<(Vec<u64>, Vec<u64>)>
     requires named { channel ≡ J.identity }
-    requires parts { channel.parts ≡ 5 }
+    requires parts { channel.parts ≡ 4 }
     ensures exchanged { IfOk result (λ r. (line : List ℕ)
         × Interleaving first.now second.now line × Interleaving r.0.items r.1.items line) }
     ensures routed { IfOk result (λ r. AreRouted (first.now ∷ second.now ∷ [])
         (r.0.items ∷ r.1.items ∷ [])) }
 {
-    let (tx, rx, mut all) = flume::on(rt).traced::<u64, J>(channel)?;
-    let senders = (all.split_off(1), all.split_off(1));
-    let receivers = (all.split_off(1), all.split_off(1));
+    let (tx, rx, mut rest) = flume::on(rt).traced::<u64, J>(channel)?;
+    let senders = (rest.split_off(1), rest.split_off(1));
+    let right = rest.split_off(1);
+    let receivers = (rest, right);
     let (sent, got) = join(
         &rt,
         || send_both(rt, tx, senders, first, second),
         || receive_both(rt, alloc, rx, receivers),
     );
     let (a, b) = sent?;
-    let (left, right) = got?;
-    all.merge(a);
-    all.merge(b);
-    all.merge(left.me);
-    all.merge(right.me);
-    let Some(0) = left.rx.settle(&mut all) else {
+    let (mut left, right) = got?;
+    left.me.merge(a);
+    left.me.merge(b);
+    left.me.merge(right.me);
+    let Some(0) = left.rx.settle(&mut left.me) else {
         return Err(io::Error::new(ErrorKind::Other, "messages are left"));
     };
     Ok((left.items, right.items))
@@ -103,6 +103,6 @@ pub fn exchange<R: Runtime>(
     ensures routed { IfOk result (λ r. AreRouted (first.now ∷ second.now ∷ [])
         (r.0.items ∷ r.1.items ∷ [])) }
 {
-    let channel = UnopenedChannel::bounded(4, 5);
+    let channel = UnopenedChannel::bounded(4, 4);
     exchange_named::<Brand, R>(rt, alloc, channel, first, second)
 }

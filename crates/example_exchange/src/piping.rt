@@ -45,30 +45,28 @@ where
     J: ChannelName + Send + Sync,
     K: ChannelName + Send + Sync,
     requires named { (first ≡ J.identity) × (second ≡ K.identity) }
-    requires parts { (first.parts ≡ 3) × (second.parts ≡ 3) }
+    requires parts { (first.parts ≡ 2) × (second.parts ≡ 2) }
     ensures halved { IfOk result (λ v. v.items ≡ halves numbers.now) }
 {
-    let (tx, rx, mut left) = flume::on(rt).traced::<u64, J>(first)?;
-    let (to, from, mut right) = flume::on(rt).traced::<u64, K>(second)?;
-    let sender = left.split_off(1);
+    let (tx, rx, mut reader) = flume::on(rt).traced::<u64, J>(first)?;
+    let (to, from, mut collector) = flume::on(rt).traced::<u64, K>(second)?;
+    let sender = reader.split_off(1);
+    let writer = collector.split_off(1);
     let halver = Halver {
         rt,
         rx,
         tx: to,
-        reader: left.split_off(1),
-        writer: right.split_off(1),
+        reader,
+        writer,
     };
-    let collector = right.split_off(1);
-    let (sent, halved) = send_halves(rt, tx, sender, halver, numbers)?;
-    let collected = receive_all(alloc, from, collector)?;
-    left.merge(sent);
-    left.merge(halved.reader);
-    right.merge(halved.writer);
-    right.merge(collected.me);
-    let Some(0) = halved.rx.settle(&mut left) else {
+    let (sent, mut halved) = send_halves(rt, tx, sender, halver, numbers)?;
+    let mut collected = receive_all(alloc, from, collector)?;
+    halved.reader.merge(sent);
+    collected.me.merge(halved.writer);
+    let Some(0) = halved.rx.settle(&mut halved.reader) else {
         return Err(io::Error::new(ErrorKind::Other, "messages are left"));
     };
-    let Some(0) = collected.rx.settle(&mut right) else {
+    let Some(0) = collected.rx.settle(&mut collected.me) else {
         return Err(io::Error::new(ErrorKind::Other, "messages are left"));
     };
     Ok(collected.items)
@@ -79,7 +77,7 @@ where
 pub fn pipeline<R: Runtime>(rt: R, alloc: Global, numbers: &[u64]) -> io::Result<Vec<u64>>
     ensures halved { IfOk result (λ v. v.items ≡ halves numbers.now) }
 {
-    let first = UnopenedChannel::bounded(4, 3);
-    let second = UnopenedChannel::unbounded(3);
+    let first = UnopenedChannel::bounded(4, 2);
+    let second = UnopenedChannel::unbounded(2);
     pipeline_named::<R, Brand, Brand>(rt, alloc, first, second, numbers)
 }

@@ -85,43 +85,40 @@ where
     J: ChannelName + Send + Sync,
     K: ChannelName + Send + Sync,
     requires named { (jobs ≡ J.identity) × (results ≡ K.identity) }
-    requires parts { (jobs.parts ≡ 4) × (results.parts ≡ 4) }
+    requires parts { (jobs.parts ≡ 3) × (results.parts ≡ 3) }
     ensures halved { IfOk result (λ v. IsPermutation (halves numbers.now) v.items) }
 {
-    let (tx, rx, mut left) = flume::on(rt).traced::<u64, J>(jobs)?;
-    let (to, from, mut right) = flume::on(rt).traced::<u64, K>(results)?;
-    let sender = left.split_off(1);
+    let (tx, rx, mut reader) = flume::on(rt).traced::<u64, J>(jobs)?;
+    let (to, from, mut collector) = flume::on(rt).traced::<u64, K>(results)?;
+    let sender = reader.split_off(1);
     let first = Halver {
         rt,
         rx: rx.clone()?,
         tx: to.clone()?,
-        reader: left.split_off(1),
-        writer: right.split_off(1),
+        reader: reader.split_off(1),
+        writer: collector.split_off(1),
     };
     let second = Halver {
         rt,
         rx,
         tx: to,
-        reader: left.split_off(1),
-        writer: right.split_off(1),
+        reader,
+        writer: collector.split_off(1),
     };
-    let collector = right.split_off(1);
     let Ran {
         sender,
         first,
-        second,
+        mut second,
     } = run(rt, tx, sender, first, second, numbers)?;
-    let collected = receive_all(alloc, from, collector)?;
-    left.merge(sender);
-    left.merge(first.reader);
-    left.merge(second.reader);
-    right.merge(first.writer);
-    right.merge(second.writer);
-    right.merge(collected.me);
-    let Some(0) = first.rx.settle(&mut left) else {
+    let mut collected = receive_all(alloc, from, collector)?;
+    second.reader.merge(sender);
+    second.reader.merge(first.reader);
+    collected.me.merge(second.writer);
+    collected.me.merge(first.writer);
+    let Some(0) = second.rx.settle(&mut second.reader) else {
         return Err(io::Error::new(ErrorKind::Other, "messages are left"));
     };
-    let Some(0) = collected.rx.settle(&mut right) else {
+    let Some(0) = collected.rx.settle(&mut collected.me) else {
         return Err(io::Error::new(ErrorKind::Other, "messages are left"));
     };
     Ok(collected.items)
@@ -132,7 +129,7 @@ where
 pub fn pool<R: Runtime>(rt: R, alloc: Global, numbers: &[u64]) -> io::Result<Vec<u64>>
     ensures halved { IfOk result (λ v. IsPermutation (halves numbers.now) v.items) }
 {
-    let jobs = UnopenedChannel::bounded(4, 4);
-    let results = UnopenedChannel::unbounded(4);
+    let jobs = UnopenedChannel::bounded(4, 3);
+    let results = UnopenedChannel::unbounded(3);
     pool_named::<R, Brand, Brand>(rt, alloc, jobs, results, numbers)
 }

@@ -1,7 +1,7 @@
 //! Two threads send a slice each. When both are done, a third slice is sent, and comes behind.
 //!
-//! Who takes in a party knows that its calls have been made. So what it sends then comes, in the one
-//! line of messages, after all that the other sent. Meanwhile another thread receives.
+//! Who takes in a party knows that its calls have been made. So what it sends then comes, in the
+//! one line of messages, after all that the other sent. Meanwhile another thread receives.
 ghost use Rattle.std.specs.Prelude.{◌≡◌, ℕ, List, [], ◌++◌, IfOk};
 ghost use Rattle.flume_party.specs.Interleavings.{Interleaving};
 ghost use Rattle.flume_actions.specs.Callers.{HasMadeCalls};

@@ -1,10 +1,11 @@
 //! Two tellers move money through one channel, and the total on their accounts stays the same.
 //!
-//! This is how a program proves an invariant of its own. The clause of `serve` says it of one thread:
-//! its party made whole calls, and the account and the sum of what they sent are, together, what the
-//! account was before and the sum of what they got. Both loops keep that. When the parties are merged,
-//! a law says that the sum over all that was sent is the sum over all that was got. For another
-//! invariant, write another relation behind `HasMadeCallsWhere`, and take the sum of another number.
+//! This is how a program proves an invariant of its own. The clause of `serve` says it of one
+//! thread: its party made whole calls, and the account and the sum of what they sent are, together,
+//! what the account was before and the sum of what they got. Both loops keep that. When the parties
+//! are merged, a law says that the sum over all that was sent is the sum over all that was got. For
+//! another invariant, write another relation behind `HasMadeCallsWhere`, and take the sum of
+//! another number.
 ghost use Rattle.std.specs.Prelude.{◌≡◌, ◌+◌, IfOk, sum};
 ghost use Rattle.flume_laws.specs.Invariants.{HasMadeCallsWhere};
 
@@ -14,8 +15,8 @@ use std::io::{self, ErrorKind};
 use std::marker::Brand;
 use std::thread::join;
 
-/// A teller: sends the amounts from the account, drops the sender, and receives onto the account until
-/// all senders are dropped. An amount that isn't on the account is an error.
+/// A teller: sends the amounts from the account, drops the sender, and receives onto the account
+/// until all senders are dropped. An amount that isn't on the account is an error.
 pub fn serve<R: Waits, J: ChannelName>(
     rt: R,
     tx: TracedSender<u64, R, J>,
@@ -71,8 +72,8 @@ pub fn transfer_named<R: Runtime, J: ChannelName + Send + Sync>(
     Ok((left, right))
 }
 
-/// Two tellers, each in a thread, send these amounts from their accounts into a channel, and take out
-/// what is there, whoever sent it. The total on both accounts is what it was before.
+/// Two tellers, each in a thread, send these amounts from their accounts into a channel, and take
+/// out what is there, whoever sent it. The total on both accounts is what it was before.
 pub fn transfer<R: Runtime>(
     rt: R,
     accounts: (u64, u64),

@@ -1,6 +1,6 @@
 -- What the party of a receive arm did, from turn to turn.
 use Rattle.std.proofs.Common.{◌≡◌, ℕ, Bool, true, false, Option, Some, None, List, [], ◌∷◌, ◌++◌, Result, Ok, Err}
-use Rattle.std.proofs.Common.{refl, sym, ap, ◌∙◌, subst, append_assoc, inl, inr, ◌⊎◌}
+use Rattle.std.proofs.Common.{refl, sym, ap, ◌∙◌, subst, append_assoc, inl, inr}
 use Rattle.std.specs.Result.{result_ok}
 use Rattle.flume_model.specs.declared.step.Kind.TheVariants.{Arm}
 use Rattle.flume_model.specs.declared.step.Step.TheVariants.{TryRecv, Recv, Poll, Withdraw}
@@ -12,19 +12,23 @@ use Rattle.flume_calls.specs.declared.calls.receive.RecvNext.{RecvNext}
 use Rattle.flume_calls.specs.declared.calls.receive.RecvNext.TheVariants.{Done, NeedSignal, Park, Refused}
 use Rattle.flume_calls.specs.declared.gates.select.ArmNext.{ArmNext}
 use Rattle.flume_calls.specs.declared.gates.select.ArmNext.TheVariants as next
-use Rattle.flume_calls.specs.ReceiveTurns.{after_recv, after_poll, after_withdraw, IsFirstAnswer, IsParkingAnswer, IsPollAnswer}
+use Rattle.flume_calls.specs.ReceiveTurns.{after_try_recv, after_recv, after_poll, after_withdraw, IsFirstAnswer}
+use Rattle.flume_calls.specs.ReceiveTurns.{IsParkingAnswer, IsPollAnswer}
 use Rattle.flume_party.specs.Parties.{PartyState, and_made}
 use Rattle.flume_actions.specs.Actions.{Action, IsPart}
 use Rattle.flume_actions.specs.ReceiveCalls as polled
-use Rattle.flume_actions.specs.Calls.{IsCall, TriesToReceive, PollsToReceive, got_by, got_by_try}
+use Rattle.flume_core.specs.declared.error.RecvError.{RecvError}
+use Rattle.flume_core.specs.declared.error.RecvError.TheVariants as received
+use Rattle.flume_actions.specs.Calls.{TriesToReceive, got_by}
 use Rattle.flume_actions.specs.Callers.{HasMadeCalls}
-use Rattle.flume_actions.proofs.CallerLemmas.{and_call}
-use Rattle.flume.specs.ArmStates.{IsAfterReceive}
+use Rattle.flume.specs.ArmStates.{IsAfterReceive, receive_result}
+use Rattle.flume.specs.EndedCalls.{ReceivedByTry, ReceivedByPolls, HasEndedReceive, GivesReceive}
 use Rattle.flume.specs.ArmParties.{ReceiveTurnOf, WithdrawsReceiveOf}
 use Rattle.flume.specs.TracedArms.{CanReceiveArm, HasNoMessage, HasParkedArm}
 use Rattle.flume.specs.declared.select.receive.ReceiveState.{ReceiveState}
 use Rattle.flume.specs.declared.select.receive.ReceiveState.TheVariants as receiving
 use Rattle.flume.proofs.TracedLemmas.{adds, has_stepped, then_made}
+use Rattle.flume.proofs.TracedReceivePollLemmas.{one_more, received_calls, got_answer}
 use Rattle.flume.proofs.UnfilledArmLemmas.{never_handed}
 
 -- a party, by its actions
@@ -74,11 +78,6 @@ module _ {T A : Type 0} where
   left_reply said.NoTicket message is = absurd (let none : ⊥ = cc in none)
   left_reply _ message none = absurd none
 
-  -- one call more
-  one_more : {start old new : P T A} {actions : List (Action T A)} {got : List T} → HasMadeCalls start old [] []
-      → IsCall actions [] got → new ≡ and_made old actions → HasMadeCalls start new [] got
-  one_more before call made = and_call before (record { actions = _; call = call; made = made }) refl refl
-
   -- the party parked before, and did more since
   still_parked : (old new : P T A) {ticket : ℕ} (more : List (Action T A)) → HasParkedArm ticket old.actions → new ≡ and_made old more
       → HasParkedArm ticket new.actions
@@ -90,32 +89,36 @@ module _ {T A : Type 0} where
   }
 
   module _ (start : P T A) where
-    -- a turn that ended the arm, or left it unstarted
-    tried : {new : P T A} (turn : RecvNext T) → IsFirstAnswer turn → HasMadeCalls start new [] (got_by_try turn)
-        → CanReceiveArm start (leads turn) new
-    tried (Done (Ok message)) first made = made
-    tried (Done (Err timed.Disconnected)) first made = made
-    tried (Done (Err timed.NoMemory)) first made = made
-    tried (Done (Err timed.Timeout)) first made = absurd first
-    tried NeedSignal first made = made
-    tried (Park ticket) first made = absurd first
-    tried (Refused ticket) first made = absurd first
-
     -- a result
-    ended : {new : P T A} (result : Result T RecvTimeoutError) → HasMadeCalls start new [] (got_by result)
+    ended : {new : P T A} (result : Result T RecvTimeoutError) → HasEndedReceive start new result
         → CanReceiveArm start (leads (Done result)) new
-    ended (Ok message) made = made
-    ended (Err timed.Disconnected) made = made
-    ended (Err timed.NoMemory) made = made
-    ended (Err timed.Timeout) made = made
+    ended (Ok message) did = did
+    ended (Err timed.Disconnected) did = did
+    ended (Err timed.NoMemory) did = received_calls did
+    ended (Err timed.Timeout) did = received_calls did
+
+    -- a turn that ended the arm, or left it unstarted
+    tried : {old new : P T A} (reply : Reply T A) (turn : RecvNext T) → HasMadeCalls start old [] [] → after_try_recv reply turn
+        → IsFirstAnswer turn → new ≡ and_made old ((TryRecv, reply) ∷ []) → CanReceiveArm start (leads turn) new
+    tried {old = old} reply (Done result) before answered first made =
+        ended result (record { between = old; before = before; actions = _; ends = ReceivedByTry answered; made = made })
+    tried reply NeedSignal before answered first made = one_more before (TriesToReceive NeedSignal answered) made
+    tried reply (Park ticket) before answered first made = absurd first
+    tried reply (Refused ticket) before answered first made = absurd first
 
     -- the first step of an arm that may park
     started : {old new : P T A} (reply : Reply T A) (turn : RecvNext T) → HasMadeCalls start old [] [] → after_recv reply turn
         → IsParkingAnswer turn → new ≡ and_made old ((Recv Arm, reply) ∷ []) → CanReceiveArm start (leads turn) new
-    started reply (Done result) before answered parking made = ended result (one_more before (PollsToReceive (polled.AtOnce answered)) made)
+    started {old = old} reply (Done result) before answered parking made =
+        ended result (record { between = old; before = before; actions = _; ends = ReceivedByPolls (polled.AtOnce answered); made = made })
     started {old = old} reply (Park ticket) before answered parking made = (
-      λ later result end polls to. one_more before (PollsToReceive (polled.Polled answered polls))
-          (then_made old ((Recv Arm, reply) ∷ []) later to made),
+      λ later result end polls to. record {
+        between = old;
+        before = before;
+        actions = _;
+        ends = ReceivedByPolls (polled.Polled answered polls);
+        made = then_made old ((Recv Arm, reply) ∷ []) later to made;
+      },
       record {
         before = old.actions;
         later = [];
@@ -159,7 +162,7 @@ module _ {T A : Type 0} where
     receive_turned old new false receiving.Unstarted answer after can makes =
         let step = has_stepped makes.1 in
         subst (λ state. CanReceiveArm start state new) (sym (led makes.0 answer after makes.3))
-        (tried makes.0 makes.2 (one_more can (TriesToReceive makes.0 step.answered) step.made))
+        (tried step.reply makes.0 can step.answered makes.2 step.made)
     receive_turned old new parks (receiving.Parked ticket) answer after can makes =
         let step = has_stepped makes.1 in
         subst (λ state. CanReceiveArm start state new) (sym (led makes.0 answer after makes.3))
@@ -173,7 +176,8 @@ module _ {T A : Type 0} where
     receive_withdrew old new (receiving.Parked ticket) after can leaves =
         let step = has_stepped leaves.3 in
         subst (λ state. CanReceiveArm start state new) (sym leaves.2)
-        (subst (HasMadeCalls start new []) (got_none leaves.0 leaves.1) (can.0 _ leaves.0 new (polled.Left step.answered) step.made))
+        (subst (HasMadeCalls start new []) (got_none leaves.0 leaves.1)
+        (received_calls (can.0 _ leaves.0 new (polled.Left step.answered) step.made)))
     receive_withdrew old new receiving.Unstarted after can same = same_arm same.1 same.2 can
     receive_withdrew old new (receiving.Completed message) after can same = same_arm same.1 same.2 can
     receive_withdrew old new receiving.Finished after can same = same_arm same.1 same.2 can
@@ -183,10 +187,11 @@ module _ {T A : Type 0} where
         → WithdrawsReceiveOf adds state old None after new → HasNoMessage state → HasMadeCalls start new [] []
     receive_left old new (receiving.Parked ticket) after can leaves none =
         let step = has_stepped leaves.3 in
-        subst (HasMadeCalls start new []) (got_none leaves.0 leaves.1) (can.0 _ leaves.0 new (polled.Left step.answered) step.made)
+        subst (HasMadeCalls start new []) (got_none leaves.0 leaves.1)
+        (received_calls (can.0 _ leaves.0 new (polled.Left step.answered) step.made))
     receive_left old new receiving.Unstarted after can same none = subst (λ party. HasMadeCalls start party [] []) (sym same.2) can
     receive_left old new (receiving.Completed None) after can same none =
-        subst (λ party. HasMadeCalls start party [] []) (sym same.2) can
+        subst (λ party. HasMadeCalls start party [] []) (sym same.2) (received_calls can)
     receive_left old new (receiving.Completed (Some message)) after can same none = absurd none
     receive_left old new receiving.Finished after can same none = subst (λ party. HasMadeCalls start party [] []) (sym same.2) can
 
@@ -205,3 +210,15 @@ module _ {T A : Type 0} where
     none_handed old new receiving.Unstarted message after capacity can same part = absurd (let none : ⊥ = cc same.0 in none)
     none_handed old new (receiving.Completed other) message after capacity can same part = absurd (let none : ⊥ = cc same.0 in none)
     none_handed old new receiving.Finished message after capacity can same part = absurd (let none : ⊥ = cc same.0 in none)
+
+    -- what an arm that completed got
+    pub received_result : (now : P T A) (state : ReceiveState T) (result : Result T RecvError) → Some result ≡ receive_result state
+        → CanReceiveArm start state now → GivesReceive start now result
+    received_result now (receiving.Completed (Some message)) result is can =
+        let same : Ok message ≡ result = cc in subst (GivesReceive start now) same (got_answer can)
+    received_result now (receiving.Completed None) result is can =
+        let same : Err received.Disconnected ≡ result = cc in
+        subst (GivesReceive start now) same (record { called = received_calls can; ended = can })
+    received_result now receiving.Unstarted result is can = absurd (let none : ⊥ = cc in none)
+    received_result now (receiving.Parked ticket) result is can = absurd (let none : ⊥ = cc in none)
+    received_result now receiving.Finished result is can = absurd (let none : ⊥ = cc in none)

@@ -1,5 +1,5 @@
 -- After a selection no arm has a message but the one that completed.
-use Rattle.std.proofs.Common.{◌≡◌, ◌≢◌, ℕ, Bool, true, false, Option, Some, None, Result, Ok, Err, IsSome, IfSome, refl, subst, sym}
+use Rattle.std.proofs.Common.{◌≢◌, ℕ, Bool, true, false, Option, Some, None, Result, Ok, Err, IsSome, IfSome, subst, sym}
 use Rattle.flume_core.specs.declared.error.NoMemory.{NoMemory}
 use Rattle.flume_core.specs.declared.error.SelectError.{SelectError}
 use Rattle.flume_calls.specs.declared.gates.select.ArmNext.{ArmNext}

@@ -1,9 +1,10 @@
 -- What the party of a send arm did, from turn to turn.
-use Rattle.std.proofs.Common.{◌≡◌, ℕ, Bool, true, false, List, [], ◌∷◌, ◌++◌, Option, Some, None, Result, Ok, Err}
-use Rattle.std.proofs.Common.{refl, sym, ap, ◌∙◌, subst, inl, inr, ◌⊎◌}
-use Rattle.flume_model.specs.declared.step.Step.TheVariants.{TrySend, Send, PollSend, WithdrawSend}
+use Rattle.std.proofs.Common.{◌≡◌, ℕ, Bool, true, false, [], ◌∷◌, Some, Result, Ok, Err}
+use Rattle.std.proofs.Common.{refl, sym, ◌∙◌, subst, inl, inr}
+use Rattle.flume_model.specs.declared.step.Step.TheVariants.{TrySend, Send, PollSend}
 use Rattle.flume_model.specs.declared.step.Reply.{Reply}
 use Rattle.flume_core.specs.declared.error.SendError.{SendError}
+use Rattle.flume_core.specs.declared.error.SendError.TheVariants as error
 use Rattle.flume_core.specs.declared.error.SendTimeoutError.{SendTimeoutError}
 use Rattle.flume_core.specs.declared.error.SendTimeoutError.TheVariants as timed
 use Rattle.flume_calls.specs.declared.calls.send.SendNext.{SendNext}
@@ -15,16 +16,18 @@ use Rattle.flume_calls.specs.SendTurns.{after_try_send, after_send, after_poll_s
 use Rattle.flume_party.specs.Parties.{PartyState, and_made}
 use Rattle.flume_actions.specs.Actions.{Action}
 use Rattle.flume_actions.specs.SendCalls as polled
-use Rattle.flume_actions.specs.Calls.{IsCall, TriesToSend, PollsToSend, sent_by, sent_by_try}
+use Rattle.flume_actions.specs.Calls.{TriesToSend}
 use Rattle.flume_actions.specs.Callers.{HasMadeCalls}
 use Rattle.flume_actions.proofs.CallerLemmas.{and_call}
 use Rattle.flume.specs.ArmStates.{IsAfterSend, send_result}
 use Rattle.flume.specs.ArmParties.{SendTurnOf, WithdrawsSendOf}
+use Rattle.flume.specs.EndedCalls.{SentByTry, SentByPolls, HasEndedSend, GivesSend}
 use Rattle.flume.specs.TracedPolls.{CanSend}
 use Rattle.flume.specs.TracedArms.{CanSendArm, MaySend}
 use Rattle.flume.specs.declared.select.send.SendState.{SendState}
 use Rattle.flume.specs.declared.select.send.SendState.TheVariants as sending
 use Rattle.flume.proofs.TracedLemmas.{adds, has_stepped, then_made}
+use Rattle.flume.proofs.TracedSendPollLemmas.{sent_calls, send_ended}
 
 -- a party, by its actions
 abbrev P : Type 0 → Type 0 → Type 0
@@ -49,30 +52,24 @@ module _ {T : Type 0} where
 
 module _ {T A : Type 0} where
   module _ (start : P T A) (message : T) where
-    -- one call more, of this message
-    one_more : {old new : P T A} {offered : T} {actions : List (Action T A)} {E : Type 0} (result : Result (Unit {0}) E)
-        → CanSend start message (Unsent offered) old → IsCall actions (sent_by offered result) [] → new ≡ and_made old actions
-        → HasMadeCalls start new (sent_by message result) []
-    one_more {new = new} result can call made =
-        subst (λ m. HasMadeCalls start new (sent_by m result) []) can.0
-        (and_call can.1 (record { actions = _; call = call; made = made }) refl refl)
-
     -- a result
-    ended : {new : P T A} (result : Result (Unit {0}) (SendTimeoutError T)) → HasMadeCalls start new (sent_by message result) []
+    ended : {new : P T A} (result : Result (Unit {0}) (SendTimeoutError T)) → HasEndedSend start message new result
         → CanSendArm start message (leads (Done result)) new
-    ended (Ok sent) made = made
-    ended (Err (timed.Disconnected back)) made = made
-    ended (Err (timed.NoMemory back)) made = (Err (timed.NoMemory back), made)
-    ended (Err (timed.Timeout back)) made = (Err (timed.Timeout back), made)
+    ended (Ok sent) did = did
+    ended (Err (timed.Disconnected back)) did = did
+    ended (Err (timed.NoMemory back)) did = (Err (timed.NoMemory back), sent_calls did)
+    ended (Err (timed.Timeout back)) did = (Err (timed.Timeout back), sent_calls did)
 
     -- a turn that may not park
     tried : {old new : P T A} {offered : T} (reply : Reply T A) (turn : SendNext T) → CanSend start message (Unsent offered) old
         → after_try_send reply turn → IsFirstAnswer offered turn
         → new ≡ and_made old ((TrySend offered, reply) ∷ []) → CanSendArm start message (leads turn) new
     tried reply (Done result) can answered first made =
-        ended result (one_more result can (TriesToSend (Done result) answered) made)
-    tried reply (NeedSignal back) can answered first made =
-        (first ∙ can.0, one_more (Err back) can (TriesToSend (NeedSignal back) answered) made)
+        ended result (send_ended can (SentByTry answered) made)
+    tried reply (NeedSignal back) can answered first made = (
+      first ∙ can.0,
+      and_call can.1 (record { actions = _; call = TriesToSend (NeedSignal back) answered; made = made }) refl refl,
+    )
     tried reply (Park ticket) can answered first made = absurd first
 
     -- the first step of an arm that may park
@@ -80,9 +77,9 @@ module _ {T A : Type 0} where
         → after_send reply turn → IsParkingAnswer offered turn → new ≡ and_made old ((Send offered, reply) ∷ [])
         → CanSendArm start message (leads turn) new
     started reply (Done result) can answered parking made =
-        ended result (one_more result can (PollsToSend (polled.AtOnce answered)) made)
+        ended result (send_ended can (SentByPolls (polled.AtOnce answered)) made)
     started {old = old} {offered = offered} reply (Park ticket) can answered parking made =
-        λ later result end polls to. one_more result can (PollsToSend (polled.Polled answered polls))
+        λ later result end polls to. send_ended can (SentByPolls (polled.Polled answered polls))
         (then_made old ((Send offered, reply) ∷ []) later to made)
     started reply (NeedSignal back) can answered parking made = absurd parking
 
@@ -136,7 +133,7 @@ module _ {T A : Type 0} where
     send_withdrew old new (sending.Parked ticket) after can leaves =
         let step = has_stepped leaves.2 in
         subst (λ state. CanSendArm start message state new) (sym leaves.1)
-        (leaves.0, can _ leaves.0 new (polled.Left step.answered) step.made)
+        (leaves.0, sent_calls (can _ leaves.0 new (polled.Left step.answered) step.made))
     send_withdrew old new (sending.Unstarted offered) after can same = same_arm same.0 same.1 can
     send_withdrew old new (sending.Completed result) after can same = same_arm same.0 same.1 can
     send_withdrew old new sending.Finished after can same = same_arm same.0 same.1 can
@@ -145,22 +142,24 @@ module _ {T A : Type 0} where
     pub send_left : (old new : P T A) (state : SendState T) (after : SendState T) → CanSendArm start message state old
         → WithdrawsSendOf adds state old after new → MaySend start message new
     send_left old new (sending.Parked ticket) after can leaves =
-        let step = has_stepped leaves.2 in (leaves.0, can _ leaves.0 new (polled.Left step.answered) step.made)
+        let step = has_stepped leaves.2 in (leaves.0, sent_calls (can _ leaves.0 new (polled.Left step.answered) step.made))
     send_left old new (sending.Unstarted offered) after can same =
         (Err (timed.NoMemory offered), subst (λ party. HasMadeCalls start party [] []) (sym same.1) can.1)
     send_left old new (sending.Completed (Ok sent)) after can same =
-        (Ok tt, subst (λ party. HasMadeCalls start party (message ∷ []) []) (sym same.1) can)
+        (Ok tt, subst (λ party. HasMadeCalls start party (message ∷ []) []) (sym same.1) (sent_calls can))
     send_left old new (sending.Completed (Err back)) after can same =
-        (Err (timed.Disconnected back), subst (λ party. HasMadeCalls start party [] []) (sym same.1) can)
+        (Err (timed.Disconnected back), subst (λ party. HasMadeCalls start party [] []) (sym same.1) (sent_calls can))
     send_left old new sending.Finished after can same = subst (λ party. MaySend start message party) (sym same.1) can
 
     -- what an arm that completed sent
     pub sent_result : (now : P T A) (state : SendState T) (result : Result (Unit {0}) (SendError T)) → Some result ≡ send_result state
-        → CanSendArm start message state now → HasMadeCalls start now (sent_by message result) []
-    sent_result now (sending.Completed (Ok sent)) (Ok sent') is can = can
-    sent_result now (sending.Completed (Err back)) (Err error) is can = can
-    sent_result now (sending.Completed (Ok sent)) (Err error) is can = absurd (let none : ⊥ = cc in none)
-    sent_result now (sending.Completed (Err back)) (Ok sent') is can = absurd (let none : ⊥ = cc in none)
+        → CanSendArm start message state now → GivesSend start message now result
+    sent_result now (sending.Completed (Ok sent)) result is can =
+        let same : Ok tt ≡ result = cc in
+        subst (GivesSend start message now) same (record { called = sent_calls can; ended = can })
+    sent_result now (sending.Completed (Err back)) result is can =
+        let same : Err (error.Disconnected back) ≡ result = cc in
+        subst (GivesSend start message now) same (record { called = sent_calls can; ended = can })
     sent_result now (sending.Unstarted offered) result is can = absurd (let none : ⊥ = cc in none)
     sent_result now (sending.Parked ticket) result is can = absurd (let none : ⊥ = cc in none)
     sent_result now sending.Finished result is can = absurd (let none : ⊥ = cc in none)

@@ -1,6 +1,6 @@
 -- What a call of a party did, as its actions.
-use Rattle.std.proofs.Common.{◌≡◌, ℕ, Bool, true, false, List, [], ◌∷◌, ◌++◌, Result, Ok, Err, Option, Vec}
-use Rattle.std.proofs.Common.{refl, sym, ap, ◌∙◌, subst, append_assoc}
+use Rattle.std.proofs.Common.{◌≡◌, ℕ, true, List, [], ◌∷◌, ◌++◌, Result}
+use Rattle.std.proofs.Common.{sym, ap, ◌∙◌, subst, append_assoc}
 use Rattle.flume_model.specs.declared.step.Step.{Step}
 use Rattle.flume_model.specs.declared.step.Kind.TheVariants.{Block}
 use Rattle.flume_model.specs.declared.step.Step.TheVariants.{TrySend, Send, PollSend, WithdrawSend}
@@ -8,13 +8,10 @@ use Rattle.flume_model.specs.declared.step.Step.TheVariants.{TryRecv, Recv, Poll
 use Rattle.flume_model.specs.declared.step.Reply.{Reply}
 use Rattle.flume_core.specs.declared.error.SendTimeoutError.{SendTimeoutError}
 use Rattle.flume_core.specs.declared.error.RecvTimeoutError.{RecvTimeoutError}
-use Rattle.flume_calls.specs.declared.calls.send.SendNext.{SendNext}
 use Rattle.flume_calls.specs.declared.calls.send.SendNext.TheVariants as send_next
-use Rattle.flume_calls.specs.declared.calls.receive.RecvNext.{RecvNext}
 use Rattle.flume_calls.specs.declared.calls.receive.RecvNext.TheVariants as recv_next
 use Rattle.flume_calls.specs.SendTurns.{after_poll_send}
 use Rattle.flume_calls.specs.ReceiveTurns.{after_poll}
-use Rattle.flume_calls.specs.Batches.{IsOneStep}
 use Rattle.flume_calls.specs.SendGates as send
 use Rattle.flume_calls.specs.ReceiveGates as receive
 use Rattle.flume_party.specs.Parties.{PartyState, party_of, and_made}
@@ -22,9 +19,8 @@ use Rattle.flume_actions.specs.Actions.{Action}
 use Rattle.flume_actions.specs.SendCalls as sends
 use Rattle.flume_actions.specs.ReceiveCalls as receives
 use Rattle.flume_actions.specs.Calls.{HasSent, HasReceived, HasStepped}
-use Rattle.flume_keeper.specs.Keeps.{Did}
-use Rattle.flume.specs.PartySteps.{DidStep, Same, FirstSendOf, ParkSendOf, AgainSendOf, SendsOf}
-use Rattle.flume.specs.PartySteps.{FirstReceiveOf, ParkReceiveOf, AgainReceiveOf, ReceivesOf}
+use Rattle.flume.specs.PartySteps.{DidStep, Same, AgainSendOf, SendsOf}
+use Rattle.flume.specs.PartySteps.{AgainReceiveOf, ReceivesOf}
 
 -- a party, by its actions
 abbrev pub P : Type 0 → Type 0 → Type 0

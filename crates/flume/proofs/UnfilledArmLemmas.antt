@@ -1,5 +1,5 @@
 -- No message is handed to a receiver that parked as an arm: it gets none as it leaves.
-use Rattle.std.proofs.Common.{◌≡◌, ℕ, ◌+◌, ◌<◌, Bool, true, false, not, ◌&&◌, if◌then◌else◌, List, [], ◌∷◌, ◌++◌, Option, Some, None}
+use Rattle.std.proofs.Common.{◌≡◌, ℕ, ◌<◌, Bool, true, false, not, ◌&&◌, if◌then◌else◌, List, [], ◌∷◌, ◌++◌, Option, Some, None}
 use Rattle.std.proofs.Common.{refl, sym, ap, ◌∙◌, subst, arith}
 use mathlib.Core.List.{reverse_aux}
 use Rattle.std.proofs.lemmas.Grind.{common_steps}
@@ -7,12 +7,11 @@ use Rattle.flume_model.specs.declared.step.Kind.{Kind}
 use Rattle.flume_model.specs.declared.step.Kind.TheVariants.{Block, Plain, Stream, Arm}
 use Rattle.flume_model.specs.declared.step.Step.TheVariants.{Recv, Withdraw}
 use Rattle.flume_model.specs.declared.step.Reply.TheVariants.{Got, Parked}
-use Rattle.flume_model.specs.declared.entry.Entry.{Entry}
 use Rattle.flume_model.specs.declared.entry.Mark.{Mark}
 use Rattle.flume_model.specs.declared.entry.Mark.TheVariants.{Waiting, Woken, Filled}
 use Rattle.flume_model.specs.Log.{Log, Opening, opens, Change, Queues, Takes, Parks, Asks, Collects, Leaves, SenderLeaves, ReceiverLeaves, change}
 use Rattle.flume_model.specs.Counts.{is_over}
-use Rattle.flume_model.specs.Line.{next_ticket, queue, tickets_issued}
+use Rattle.flume_model.specs.Line.{next_ticket}
 use Rattle.flume_model.specs.Entries.{entry_of, is_filled, round, without_ticket, all_woken}
 use Rattle.flume_model.specs.Asking.{IsWithdrawReply, IsWithdrawReplyByMark}
 use Rattle.flume_model.specs.Parked.{LogEntry, same_notice, new_entry, entries, entries_after, is_closed_after}

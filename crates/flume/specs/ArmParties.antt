@@ -10,7 +10,6 @@ use Rattle.flume_core.specs.declared.error.RecvTimeoutError.{RecvTimeoutError}
 use Rattle.flume_calls.specs.declared.calls.send.SendNext.{SendNext}
 use Rattle.flume_calls.specs.declared.calls.receive.RecvNext.{RecvNext}
 use Rattle.flume_calls.specs.declared.gates.select.ArmNext.{ArmNext}
-use Rattle.flume_calls.specs.declared.gates.select.ArmNext.TheVariants as next
 use Rattle.flume_calls.specs.SendTurns.{after_send, after_parked_send, step_of_parked_send}
 use Rattle.flume_calls.specs.SendTurns.{after_try_send}
 use Rattle.flume_calls.specs.SendTurns as send_turn

@@ -1,12 +1,12 @@
 -- Arms without a message: through turns and withdrawals each stays so, but the one that completes.
-use Rattle.std.specs.Prelude.{◌≡◌, ◌≢◌, ◌⊎◌, ℕ, Bool, true, false, Option, Some, None, Result}
-use Rattle.std.specs.Prelude.{Ok, Err}
+use Rattle.std.specs.Prelude.{◌≡◌, ◌≢◌, ℕ, Bool, true, false}
+use Rattle.std.specs.Prelude.{Err}
 use mathlib.Core.Path.{refl, sym, subst}
 use mathlib.Core.Logic.{inl, inr}
 use Rattle.flume_core.specs.declared.error.RecvTimeoutError.TheVariants as timed
 use Rattle.flume_calls.specs.declared.calls.receive.RecvNext.{RecvNext}
 use Rattle.flume_calls.specs.declared.calls.receive.RecvNext.TheVariants.{Done, NeedSignal}
-use Rattle.flume_calls.specs.declared.calls.receive.RecvNext.TheVariants.{Park, Refused}
+use Rattle.flume_calls.specs.declared.calls.receive.RecvNext.TheVariants.{Park}
 use Rattle.flume_calls.specs.declared.gates.select.ArmNext.{ArmNext}
 use Rattle.flume_calls.specs.declared.gates.select.ArmNext.TheVariants as next
 use Rattle.flume.specs.ArmStates.{IsAfterReceive}

@@ -26,5 +26,6 @@ pub mod SendPolls
 pub mod PartySteps
 pub mod PartyIterators
 pub mod TracedSends
+pub mod EndedCalls
 pub mod TracedPolls
 pub mod TracedArms

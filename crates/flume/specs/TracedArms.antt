@@ -1,17 +1,20 @@
 -- The arms of ends with a trace: what their party did since they were added to a selector.
-use Rattle.std.specs.Prelude.{◌≡◌, ℕ, List, [], ◌∷◌, ◌++◌, Option, Some, None, Result, Ok, Err}
+use Rattle.std.specs.Prelude.{◌≡◌, ℕ, List, [], ◌∷◌, ◌++◌, Some, None, Result, Ok, Err}
 use Rattle.flume_model.specs.declared.step.Kind.TheVariants.{Arm}
 use Rattle.flume_model.specs.declared.step.Step.TheVariants.{Recv}
 use Rattle.flume_model.specs.declared.step.Reply.TheVariants.{Parked}
 use Rattle.flume_core.specs.declared.error.SendError.{SendError}
 use Rattle.flume_core.specs.declared.error.RecvError.{RecvError}
 use Rattle.flume_core.specs.declared.error.SendTimeoutError.{SendTimeoutError}
+use Rattle.flume_core.specs.declared.error.SendTimeoutError.TheVariants as send_timeout
+use Rattle.flume_core.specs.declared.error.RecvTimeoutError.TheVariants as receive_timeout
 use Rattle.flume_calls.specs.declared.polled.send.PolledSend.TheVariants as polled
 use Rattle.flume_party.specs.Parties.{PartyState}
 use Rattle.flume_actions.specs.Actions.{Action}
-use Rattle.flume_actions.specs.Calls.{sent_by, got_by}
+use Rattle.flume_actions.specs.Calls.{sent_by}
 use Rattle.flume_actions.specs.Callers.{HasMadeCalls}
 use Rattle.flume.specs.ArmStates.{CompletesSend, CompletesReceive}
+use Rattle.flume.specs.EndedCalls.{HasEndedReceive, HasEndedSend, GivesReceive, GivesSend}
 use Rattle.flume.specs.TracedPolls.{CanSend, CanReceive}
 use Rattle.flume.specs.declared.select.send.SendState.{SendState}
 use Rattle.flume.specs.declared.select.send.SendState.TheVariants as sending
@@ -48,13 +51,14 @@ module _ {T A : Type 0} where
     pub parked : actions ≡ before ++ (Recv Arm, Parked ticket) ∷ later
 
 module _ {T A : Type 0} (start : PartyState (Action T A)) where
-  -- A receive arm in this state: the party made whole calls since the start, which got what the arm
-  -- completed with; of a parked one this will hold however its polls end.
+  -- A receive arm in this state: since the start, the party made a receive that ended with what the
+  -- arm completed with, or whole calls that got nothing; of a parked one, see CanReceive.
   abbrev pub CanReceiveArm : ReceiveState T → PartyState (Action T A) → Type 0
   CanReceiveArm (receiving.Parked ticket) now =
       CanReceive start (Some ticket) now × HasParkedArm ticket now.actions
-  CanReceiveArm (receiving.Completed (Some message)) now =
-      HasMadeCalls start now [] (message ∷ [])
+  CanReceiveArm (receiving.Completed (Some message)) now = HasEndedReceive start now (Ok message)
+  CanReceiveArm (receiving.Completed None) now =
+      HasEndedReceive start now (Err receive_timeout.Disconnected)
   CanReceiveArm _ now = HasMadeCalls start now [] []
 
   -- the party made whole calls since the start, which sent the message or nothing
@@ -68,19 +72,20 @@ module _ {T A : Type 0} (start : PartyState (Action T A)) where
       CanSend start message (polled.Unsent offered) now
   CanSendArm message (sending.Parked ticket) now =
       CanSend start message (polled.Parked ticket) now
-  CanSendArm message (sending.Completed (Ok sent)) now = HasMadeCalls start now (message ∷ []) []
-  CanSendArm message (sending.Completed (Err back)) now = HasMadeCalls start now [] []
+  CanSendArm message (sending.Completed (Ok sent)) now = HasEndedSend start message now (Ok tt)
+  CanSendArm message (sending.Completed (Err back)) now =
+      HasEndedSend start message now (Err (send_timeout.Disconnected back))
   CanSendArm message sending.Finished now = MaySend message now
 
 module _ {T A F V : Type 0} where
   -- A receive arm completed: the value is what its mapper answers to this result, and since the
-  -- start its party made whole calls, which got this result.
+  -- start its party made whole calls, of which the last one, a receive, ended with this result.
   pub record HasReceivedBy (post : F → Result T RecvError → V → Type 0) (mapper : F)
       (start : PartyState (Action T A)) (value : V) (now : PartyState (Action T A)) : Type 0 where
     pub result : Result T RecvError
     pub completed : CompletesReceive result
     pub mapped : post mapper result value
-    pub called : HasMadeCalls start now [] (got_by result)
+    pub gave : GivesReceive start now result
 
   -- the same of a send arm of this message
   pub record HasSentBy (post : F → Result (Unit {0}) (SendError T) → V → Type 0) (mapper : F)
@@ -89,4 +94,4 @@ module _ {T A F V : Type 0} where
     pub result : Result (Unit {0}) (SendError T)
     pub completed : CompletesSend result
     pub mapped : post mapper result value
-    pub called : HasMadeCalls start now (sent_by message result) []
+    pub gave : GivesSend start message now result

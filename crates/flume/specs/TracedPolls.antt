@@ -10,8 +10,9 @@ use Rattle.flume_party.specs.Parties.{PartyState, and_made}
 use Rattle.flume_actions.specs.Actions.{Action}
 use Rattle.flume_actions.specs.SendCalls.{IsBlockedPolls}
 use Rattle.flume_actions.specs.ReceiveCalls.{IsParkedPolls}
-use Rattle.flume_actions.specs.Calls.{sent_by, got_by}
+use Rattle.flume_actions.specs.Calls.{sent_by}
 use Rattle.flume_actions.specs.Callers.{HasMadeCalls}
+use Rattle.flume.specs.EndedCalls.{HasEndedReceive, HasEndedSend, GivesReceive}
 
 -- the message that came, if one did
 abbrev pub got_if : {T : Type 0} → Option T → List T
@@ -19,18 +20,18 @@ got_if (Some message) = message ∷ []
 got_if None = []
 
 module _ {T A : Type 0} (start : PartyState (Action T A)) where
-  -- A receive, by the ticket under which it is parked: however its polls end, the party made whole
-  -- calls since the start, which got the receive's result.
+  -- A receive, by the ticket under which it is parked: however its polls end, the party has made a
+  -- receive with that result, and got nothing before.
   abbrev pub CanReceive : Option ℕ → PartyState (Action T A) → Type 0
   CanReceive None now = HasMadeCalls start now [] []
   CanReceive (Some ticket) now =
       (later : List (Action T A)) (result : Result T RecvTimeoutError) (end : PartyState (Action T A))
       → IsParkedPolls ticket later result → end ≡ and_made now later
-      → HasMadeCalls start end [] (got_by result)
+      → HasEndedReceive start end result
 
   -- a receive after a poll with this answer, or that waits on
   abbrev pub ReceivesOn : Option (Result T RecvError) → Option ℕ → PartyState (Action T A) → Type 0
-  ReceivesOn (Some answer) call now = HasMadeCalls start now [] (got_by answer)
+  ReceivesOn (Some answer) call now = GivesReceive start now answer
   ReceivesOn None call now = CanReceive call now
 
   -- as CanReceive, of a send of this message
@@ -39,7 +40,7 @@ module _ {T A : Type 0} (start : PartyState (Action T A)) where
   CanSend message (Parked ticket) now =
       (later : List (Action T A)) (result : Result (Unit {0}) (SendTimeoutError T))
       (end : PartyState (Action T A)) → IsBlockedPolls ticket later result
-      → end ≡ and_made now later → HasMadeCalls start end (sent_by message result) []
+      → end ≡ and_made now later → HasEndedSend start message end result
   CanSend message Finished now = ⊥
 
 module _ {T : Type 0} where

@@ -4,11 +4,15 @@ use Rattle.flume_core.specs.declared.error.TrySendError.{TrySendError}
 use Rattle.flume_core.specs.declared.error.TrySendError.TheVariants as try_send
 use Rattle.flume_core.specs.declared.error.SendTimeoutError.{SendTimeoutError}
 use Rattle.flume_core.specs.declared.error.SendTimeoutError.TheVariants as send_timeout
-use Rattle.flume_party.specs.Parties.{PartyState}
+use Rattle.flume_party.specs.Parties.{PartyState, and_made}
 use Rattle.flume_actions.specs.Actions.{Action}
 use Rattle.flume_actions.specs.Callers.{HasMadeCalls}
 
 module _ {T A : Type 0} where
+  -- the party made these actions
+  abbrev pub has_added : PartyState (Action T A) → List (Action T A) → PartyState (Action T A) → Type 0
+  has_added old actions new = new ≡ and_made old actions
+
   -- The party made whole calls, one after the other, which sent the first of these messages, in
   -- order. The others weren't sent, and as many are left.
   pub record HasSentFirst (old : PartyState (Action T A)) (messages : List T)

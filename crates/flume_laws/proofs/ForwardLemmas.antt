@@ -10,7 +10,7 @@ use Rattle.flume_actions.specs.Calls.{HasCalled}
 use Rattle.flume_actions.proofs.CallerLemmas.{no_call, and_call}
 use Rattle.flume_laws.specs.Together.{AreExchanged}
 use Rattle.flume_laws.specs.Forwards.{HasForwarded}
-use Rattle.flume_laws.proofs.TakeInLemmas.{one_in_order, two_in_order, same_in_order}
+use Rattle.flume_laws.proofs.TakeInLemmas.{one_in_order, two_in_order}
 
 module _ {X Y A : Type 0} where
   -- no message yet
@@ -43,12 +43,6 @@ module _ {X Y A : Type 0} where
 pub ruleset forward_steps = (no_message, and_message, and_no_message)
 
 module _ {X Y : Type 0} where
-  -- two channels in a row, with such a thread between them: what comes out of the second
-  pub piped : (f : X → Y) {sent taken : List X} {results : List Y}
-      → AreExchanged (sent ∷ []) (taken ∷ []) → AreExchanged (map f taken ∷ []) (results ∷ [])
-      → results ≡ map f sent
-  piped f first second = sym (same_in_order second) ∙ ap (map f) (sym (same_in_order first))
-
   -- two such threads side by side, between two channels: what comes out of the second, in any order
   pub pooled : (f : X → Y) {sent first second : List X} {results : List Y}
       → AreExchanged (sent ∷ []) (second ∷ first ∷ [])

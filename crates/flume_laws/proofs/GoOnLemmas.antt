@@ -14,9 +14,9 @@ use Rattle.flume_laws.proofs.TakeInLemmas.{HasTakenIn, take_in, take_in_receiver
 use Rattle.flume_laws.proofs.TakeInLemmas.{one_in_order, two_in_order}
 
 module _ {T A : Type 0} where
-  -- A party that took in others, then made calls of its own, and then took in further ones: what the
-  -- first ones sent, what it sent then, what the further ones sent, and what all of them got. Who sent
-  -- or got nothing may be left out.
+  -- A party that took in others, then made calls of its own, and then took in further ones: what
+  -- the first ones sent, what it sent then, what the further ones sent, and what all of them got.
+  -- Who sent or got nothing may be left out.
   pub record HasGoneOn (party : PartyState (Action T A)) (early late others gots : List (List T))
       : Type 0 where
     pub before : PartyState (Action T A)
@@ -164,12 +164,13 @@ module _ {T A : Type 0} where
 
   -- if its actions are all there were, and the channel was emptied, what was sent early comes first
   pub exchanged_in_phases : {party : PartyState (Action T A)}
-      {early late others gots : List (List T)} {capacity : Option ℕ}
-      → HasGoneOn party early late others gots → IsWhole capacity party.actions (Some 0)
+      {early late others gots : List (List T)} {capacity : Option ℕ} {n : ℕ}
+      → HasGoneOn party early late others gots → IsWhole capacity party.actions (Some n) → n ≡ 0
       → AreExchangedInPhases early late others gots
-  exchanged_in_phases all whole =
+  exchanged_in_phases {party = party} {capacity = capacity} all whole none =
       let both = in_phases _ _ all.took.merged all.took.calls all.went.merged all.went.calls
-      all.rest.merged all.rest.calls all.merged whole in
+      all.rest.merged all.rest.calls all.merged
+      (subst (λ n. IsWhole capacity party.actions (Some n)) none whole) in
       let first = parted _ _ both.8 in
       let later = parted _ _ first.3 in (
         both.0,
@@ -202,9 +203,10 @@ module _ {T : Type 0} where
 module _ {T A : Type 0} where
   -- and if two sent early
   pub one_behind_two : {party : PartyState (Action T A)} {one other third got : List T}
-      {capacity : Option ℕ} → HasGoneOn party (other ∷ one ∷ []) (third ∷ []) [] (got ∷ [])
-      → IsWhole capacity party.actions (Some 0)
+      {capacity : Option ℕ} {n : ℕ}
+      → HasGoneOn party (other ∷ one ∷ []) (third ∷ []) [] (got ∷ [])
+      → IsWhole capacity party.actions (Some n) → n ≡ 0
       → (early : List T) × Interleaving one other early × (got ≡ early ++ third)
-  one_behind_two {one = one} {other = other} all whole =
-      let items = one_behind_all (other ∷ one ∷ []) (exchanged_in_phases all whole) in
+  one_behind_two {one = one} {other = other} all whole none =
+      let items = one_behind_all (other ∷ one ∷ []) (exchanged_in_phases all whole none) in
       (items.0, two_in_order items.1, items.2)

@@ -14,7 +14,7 @@ use Rattle.flume_actions.specs.Calls.{HasCalled}
 use Rattle.flume_actions.specs.Callers.{HasMadeCalls}
 use Rattle.flume_actions.proofs.CallerLemmas.{no_call, and_call, and_calls}
 use Rattle.flume_laws.specs.Together.{Interleaved, AreExchanged}
-use Rattle.flume_laws.specs.Forwards.{HasReplied, replies_to}
+use Rattle.flume_laws.specs.Forwards.{HasServed, replies_to}
 use Rattle.flume_laws.proofs.JoinLemmas.{right_first, parted}
 use Rattle.flume_laws.proofs.TakeInLemmas.{one_in_order}
 
@@ -27,10 +27,10 @@ module _ {X Y : Type 0} where
       ap (map reply) (filter-append test some more)
       ∙ map-append reply (filter test some) (filter test more)
 
-module _ {X Y A : Type 0} {is_first is_second : X → Bool} {reply : X → Y} where
+module _ {X Y A : Type 0} {is_of_second : X → Bool} {reply : X → Y} where
   -- no request yet
   pub no_request : (reader : PartyState (Action X A)) (first second : PartyState (Action Y A))
-      → HasReplied is_first is_second reply reader reader first first second second
+      → HasServed is_of_second reply reader reader first first second second
   no_request reader first second = record {
     requests = [];
     got = no_call reader;
@@ -41,26 +41,26 @@ module _ {X Y A : Type 0} {is_first is_second : X → Bool} {reply : X → Y} wh
   -- a request more, and its reply
   pub and_request : {reader reader' reader'' : PartyState (Action X A)}
       {first first' first'' second second' second'' : PartyState (Action Y A)} {x : X}
-      → HasReplied is_first is_second reply reader reader' first first' second second'
+      → HasServed is_of_second reply reader reader' first first' second second'
       → HasCalled reader' reader'' [] (x ∷ [])
-      → HasMadeCalls first' first'' (replies_to is_first reply (x ∷ [])) []
-      → HasMadeCalls second' second'' (replies_to is_second reply (x ∷ [])) []
-      → HasReplied is_first is_second reply reader reader'' first first'' second second''
+      → HasMadeCalls first' first'' (replies_to (λ x. not (is_of_second x)) reply (x ∷ [])) []
+      → HasMadeCalls second' second'' (replies_to is_of_second reply (x ∷ [])) []
+      → HasServed is_of_second reply reader reader'' first first'' second second''
   and_request {x = x} before got to_first to_second = record {
     requests = before.requests ++ x ∷ [];
     got = and_call before.got got refl refl;
     to_first = and_calls before.to_first to_first
-        (replies_append is_first reply before.requests (x ∷ [])) refl;
+        (replies_append (λ x. not (is_of_second x)) reply before.requests (x ∷ [])) refl;
     to_second = and_calls before.to_second to_second
-        (replies_append is_second reply before.requests (x ∷ [])) refl;
+        (replies_append is_of_second reply before.requests (x ∷ [])) refl;
   }
 
   -- a call more, which got none
   pub and_no_request : {reader reader' reader'' : PartyState (Action X A)}
       {first first' second second' : PartyState (Action Y A)}
-      → HasReplied is_first is_second reply reader reader' first first' second second'
+      → HasServed is_of_second reply reader reader' first first' second second'
       → HasCalled reader' reader'' [] []
-      → HasReplied is_first is_second reply reader reader'' first first' second second'
+      → HasServed is_of_second reply reader reader'' first first' second second'
   and_no_request before got = record {
     requests = before.requests;
     got = and_call before.got got refl (sym (append-nil before.requests));
@@ -71,6 +71,7 @@ module _ {X Y A : Type 0} {is_first is_second : X → Bool} {reply : X → Y} wh
 -- before the loop of such a server, after one more request, and at the end
 pub ruleset reply_steps = (no_request, and_request, and_no_request)
 
+-- if both together are true, each is
 both_true : (a b : Bool) → (a && b) ≡ true → (a ≡ true) × (b ≡ true)
 both_true true b is = (refl, is)
 both_true false b is = absurd cc
@@ -119,28 +120,31 @@ module _ {X : Type 0} where
   all_pass test make passes [] = refl
   all_pass test make passes (n ∷ ns) = grind (arith, passes n, all_pass test make passes ns)
 
-module _ {N X Y : Type 0} where
-  -- Two clients ask one server, each about some things. If the server got what they asked, then its
-  -- replies to each are the replies to what this one asked, in order.
-  pub replied : (is_first is_second : X → Bool) (reply : X → Y) (ask ask' : N → X)
-      (first second : List N) {got : List X}
-      → ((n : N) → (is_first (ask n) ≡ true) × (is_first (ask' n) ≡ false))
-      → ((n : N) → (is_second (ask n) ≡ false) × (is_second (ask' n) ≡ true))
-      → AreExchanged (map ask' second ∷ map ask first ∷ []) (got ∷ [])
-      → (replies_to is_first reply got ≡ map (λ n. reply (ask n)) first)
-      × (replies_to is_second reply got ≡ map (λ n. reply (ask' n)) second)
-  replied is_first is_second reply ask ask' first second {got = got} by_first by_second asked =
-      let firsts = told_apart is_first (map ask' second ∷ []) [] (map ask first) got asked
-      (all_pass is_first ask (λ n. (by_first n).0) first)
-      (none_pass is_first ask' (λ n. (by_first n).1) second) in
-      let seconds = told_apart is_second [] (map ask first ∷ []) (map ask' second) got asked
-      (all_pass is_second ask' (λ n. (by_second n).1) second)
-      (none_pass is_second ask (λ n. (by_second n).0) first) in (
-        ap (map reply) firsts ∙ map-map reply ask first,
-        ap (map reply) seconds ∙ map-map reply ask' second,
+module _ {N X Y A : Type 0} {is_of_second : X → Bool} {reply : X → Y} where
+  -- Two clients ask one server, each about some things, and that is what it got. So it sent to each
+  -- the replies to what this one asked, in order.
+  pub served : {reader reader' : PartyState (Action X A)}
+      {first first' second second' : PartyState (Action Y A)} (ask : Bool → N → X)
+      → ((b : Bool) (n : N) → is_of_second (ask b n) ≡ b) → (firsts seconds : List N)
+      → (did : HasServed is_of_second reply reader reader' first first' second second')
+      → AreExchanged (map (ask true) seconds ∷ map (ask false) firsts ∷ []) (did.requests ∷ [])
+      → HasMadeCalls first first' (map (λ n. reply (ask false n)) firsts) []
+      × HasMadeCalls second second' (map (λ n. reply (ask true n)) seconds) []
+  served {first = first} {first' = first'} {second = second} {second' = second'} ask is firsts
+      seconds did asked =
+      let is_of_first : X → Bool = λ x. not (is_of_second x) in
+      let first_passes = all_pass is_of_first (ask false) (λ n. ap not (is false n)) firsts in
+      let second_passes = all_pass is_of_second (ask true) (is true) seconds in
+      let second_fails = all_pass (λ x. not (is_of_first x)) (ask true)
+      (λ n. ap (λ b. not (not b)) (is true n)) seconds in
+      let of_first = told_apart is_of_first (map (ask true) seconds ∷ []) []
+      (map (ask false) firsts) did.requests asked first_passes
+      (ap (λ b. b && true) second_fails) in
+      let of_second = told_apart is_of_second [] (map (ask false) firsts ∷ [])
+      (map (ask true) seconds) did.requests asked second_passes
+      (ap (λ b. b && true) first_passes) in (
+        subst (λ sent. HasMadeCalls first first' sent [])
+            (ap (map reply) of_first ∙ map-map reply (ask false) firsts) did.to_first,
+        subst (λ sent. HasMadeCalls second second' sent [])
+            (ap (map reply) of_second ∙ map-map reply (ask true) seconds) did.to_second,
       )
-    where
-      none_pass : (test : X → Bool) (make : N → X) → ((n : N) → test (make n) ≡ false)
-          → (ns : List N) → list_all (list_all (λ x. not (test x))) (map make ns ∷ []) ≡ true
-      none_pass test make fails ns =
-          ap (λ b. b && true) (all_pass (λ x. not (test x)) make (λ n. ap not (fails n)) ns)

@@ -49,8 +49,13 @@ module _ {T A : Type 0} where
     -- each of these parties is in the first lists or in the second
     pub few : length parties ≤ length sents + length gots
 
+  -- a party of which another was split off, before it did anything
+  pub split_off : {party rest : PartyState (Action T A)} {n m : ℕ} → party ≡ party_of n []
+      → rest ≡ party_of m party.actions → rest ≡ party_of m []
+  split_off {m = m} new rest = rest ∙ ap (λ p. party_of m p.actions) new
+
   -- a party that did nothing
-  pub none_taken_in : {party : PartyState (Action T A)} {parts : ℕ} → party ≡ party_of parts []
+  pub none_taken_in : {party : PartyState (Action T A)} {n : ℕ} → party ≡ party_of n []
       → HasTakenIn party [] []
   none_taken_in new = record {
     parties = [];
@@ -63,21 +68,26 @@ module _ {T A : Type 0} where
     few = omega arith;
   }
 
-  -- one is split off
-  pub split_off : {party rest : PartyState (Action T A)} {parts : ℕ} {sents gots : List (List T)}
-      → HasTakenIn party sents gots → rest ≡ party_of parts party.actions
-      → HasTakenIn rest sents gots
-  split_off {sents = sents} {gots = gots} before rest =
-      subst (λ p. HasTakenIn p sents gots) (sym rest) (record {
-        parties = before.parties;
-        all_sents = before.all_sents;
-        all_gots = before.all_gots;
-        merged = before.merged;
-        calls = before.calls;
-        sent = before.sent;
-        got = before.got;
-        few = before.few;
-      })
+  -- a party that only received, and took in none
+  pub only_received : {new party : PartyState (Action T A)} {n : ℕ} {got : List T}
+      → new ≡ party_of n [] → HasMadeCalls new party [] got → HasTakenIn party [] (got ∷ [])
+  only_received fresh did =
+      let actions = ap (λ p. p.actions) did.made ∙ ap (λ p. p.actions ++ did.actions) fresh in
+      record {
+        parties = did.actions ∷ [];
+        all_sents = [] ∷ [];
+        all_gots = _ ∷ [];
+        merged = (
+          [],
+          refl,
+          subst (Interleaving did.actions []) (sym actions)
+              (interleaved_swap [] _ _ (only_right did.actions)),
+        );
+        calls = AndParty did.calls NoParty;
+        sent = λ line list. leave_out [] line list;
+        got = λ line all. all;
+        few = omega arith;
+      }
 
   -- one that was new is taken in after its calls
   pub take_in : {party new other both : PartyState (Action T A)} {parts : ℕ} {sent got : List T}
@@ -140,29 +150,13 @@ module _ {T A : Type 0} where
         few = omega (arith, before.few);
       }
 
-  -- a sender and a receiver are split off a party that did nothing, and taken in after their calls
-  pub two_taken_in : {opened rest other both all sender sent_by receiver got_by
-      : PartyState (Action T A)} {n m p q k : ℕ} {sent got : List T}
-      → opened ≡ party_of n [] → rest ≡ party_of m opened.actions → sender ≡ party_of p []
-      → other ≡ party_of q rest.actions → receiver ≡ party_of k []
-      → HasMadeCalls sender sent_by sent [] → HasMadeCalls receiver got_by [] got
-      → Merged other sent_by both → Merged both got_by all → HasTakenIn all (sent ∷ []) (got ∷ [])
-  two_taken_in opened first sender second receiver sent got merged all_merged =
-      let none = split_off (split_off (none_taken_in opened) first) second in
-      take_in_receiver (take_in_sender none sender sent merged) receiver got all_merged
-
-  -- nothing is left
-  pub emptied : {capacity : Option ℕ} {actions : List (Action T A)} {n : ℕ}
-      → IsWhole capacity actions (Some n) → n ≡ 0 → IsWhole capacity actions (Some 0)
-  emptied {capacity = capacity} {actions = actions} whole none =
-      subst (λ n. IsWhole capacity actions (Some n)) none whole
-
-  -- if its actions are all there were, and the channel was emptied, what was sent is what was got
+  -- if its actions are all there were, and nothing is left, what was sent is what was got
   pub exchanged : {party : PartyState (Action T A)} {sents gots : List (List T)}
-      {capacity : Option ℕ} → HasTakenIn party sents gots → IsWhole capacity party.actions (Some 0)
-      → AreExchanged sents gots
-  exchanged all whole =
-      let both = exchange all.merged all.calls whole in
+      {capacity : Option ℕ} {n : ℕ} → HasTakenIn party sents gots
+      → IsWhole capacity party.actions (Some n) → n ≡ 0 → AreExchanged sents gots
+  exchanged {party = party} {capacity = capacity} all whole none =
+      let both = exchange all.merged all.calls
+      (subst (λ n. IsWhole capacity party.actions (Some n)) none whole) in
       (both.0, all.sent both.0 both.1, all.got both.0 both.2)
 
   -- if its actions are all there were, and so many messages are left, what was sent is what was
@@ -184,9 +178,10 @@ module _ {T A : Type 0} where
 
   -- so each sum over what was sent is the sum over what was got
   pub sums_kept : {party : PartyState (Action T A)} {sents gots : List (List T)}
-      {capacity : Option ℕ} → HasTakenIn party sents gots → IsWhole capacity party.actions (Some 0)
-      → (weight : T → ℕ) → sum_over_all weight sents ≡ sum_over_all weight gots
-  sums_kept all whole weight = same_sum weight _ _ (exchanged all whole)
+      {capacity : Option ℕ} {n : ℕ} → HasTakenIn party sents gots
+      → IsWhole capacity party.actions (Some n) → n ≡ 0 → (weight : T → ℕ)
+      → sum_over_all weight sents ≡ sum_over_all weight gots
+  sums_kept all whole none weight = same_sum weight _ _ (exchanged all whole none)
 
 module _ {T : Type 0} where
   -- one sender and one receiver
@@ -215,3 +210,15 @@ module _ {T : Type 0} where
   two_routed {first = first} {second = second} {left = left} {right = right} all =
       routed (first ∷ second ∷ []) (left ∷ right ∷ [])
       (all.0, first_two (two_in_order all.1), first_two (two_in_order all.2))
+
+module _ {T A : Type 0} where
+  -- One party received, and took in another one that sent. These are all there were, and nothing is
+  -- left: what was got is what was sent.
+  pub one_to_one : {receiver received_by sender sent_by all : PartyState (Action T A)} {n m k : ℕ}
+      {sent got : List T} {capacity : Option ℕ} → receiver ≡ party_of n []
+      → HasMadeCalls receiver received_by [] got → sender ≡ party_of m []
+      → HasMadeCalls sender sent_by sent [] → Merged received_by sent_by all
+      → IsWhole capacity all.actions (Some k) → k ≡ 0 → got ≡ sent
+  one_to_one receiver received sender sent merged whole none =
+      let all = take_in_sender (only_received receiver received) sender sent merged in
+      sym (same_in_order (exchanged all whole none))

@@ -1,5 +1,5 @@
 -- What a thread does that sends what it makes of what it gets.
-use Rattle.std.specs.Prelude.{Bool, List, [], map}
+use Rattle.std.specs.Prelude.{Bool, not, List, [], map}
 use Rattle.std.specs.List.{filter}
 use Rattle.flume_party.specs.Parties.{PartyState}
 use Rattle.flume_actions.specs.Actions.{Action}
@@ -19,10 +19,11 @@ module _ {X Y A : Type 0} where
 
   -- A server for two clients: its reader got some requests. One writer sent the replies to those of
   -- the first client, in their order, and another writer the replies to those of the second.
-  pub record HasReplied (is_first is_second : X → Bool) (reply : X → Y)
+  pub record HasServed (is_of_second : X → Bool) (reply : X → Y)
       (reader reader' : PartyState (Action X A))
       (first first' second second' : PartyState (Action Y A)) : Type 0 where
     pub requests : List X
     pub got : HasMadeCalls reader reader' [] requests
-    pub to_first : HasMadeCalls first first' (replies_to is_first reply requests) []
-    pub to_second : HasMadeCalls second second' (replies_to is_second reply requests) []
+    pub to_first : HasMadeCalls first first'
+        (replies_to (λ x. not (is_of_second x)) reply requests) []
+    pub to_second : HasMadeCalls second second' (replies_to is_of_second reply requests) []

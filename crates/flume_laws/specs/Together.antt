@@ -17,8 +17,8 @@ module _ {X : Type 0} where
   abbrev pub AreExchanged : List (List X) → List (List X) → Type 0
   AreExchanged sents gots = (line : List X) × Interleaved sents line × Interleaved gots line
 
-  -- What some parties sent is what some got, and then what is left: so many messages. They were in a
-  -- channel with this capacity, and so many parties used it.
+  -- What some parties sent is what some got, and then what is left: so many messages. They were in
+  -- a channel with this capacity, and so many parties used it.
   pub record IsExchangedSoFar (capacity : Option ℕ) (parties : ℕ) (sents gots : List (List X))
       (n : ℕ) : Type 0 where
     -- the messages that were got, in one order
@@ -31,12 +31,12 @@ module _ {X : Type 0} where
     pub got : Interleaved gots line
     -- so many are left
     pub count : length left ≡ n
-    -- They are at most the greater of the capacity and the number of parties. Without a capacity, this
-    -- says nothing.
+    -- They are at most the greater of the capacity and the number of parties. Without a capacity,
+    -- this says nothing.
     pub within : IsWithinCapacity capacity parties n
 
-  -- What some parties sent early, what some sent late, and what others sent, is what some got, in one
-  -- order. All that was sent early comes before all that was sent late.
+  -- What some parties sent early, what some sent late, and what others sent, is what some got, in
+  -- one order. All that was sent early comes before all that was sent late.
   abbrev pub AreExchangedInPhases : (early late others gots : List (List X)) → Type 0
   AreExchangedInPhases early late others gots = (first second rest line : List X)
       × Interleaved early first × Interleaved late second × Interleaved others rest
@@ -58,9 +58,9 @@ module _ {X : Type 0} where
   AreEmpty [] = Unit {0}
   AreEmpty (xs ∷ lists) = (xs ≡ []) × AreEmpty lists
 
-  -- Each receiver's list is divided by who sent what. What the receivers got of a sender, merged, is
-  -- what that one sent; and what a receiver got of each sender, merged, is all that it got. So what
-  -- one receiver got of one sender stands in both lists, in the order of both.
+  -- Each receiver's list is divided by who sent what. What the receivers got of a sender, merged,
+  -- is what that one sent; and what a receiver got of each sender, merged, is all that it got. So
+  -- what one receiver got of one sender stands in both lists, in the order of both.
   abbrev pub AreRouted : List (List X) → List (List X) → Type 0
   AreRouted [] gots = AreEmpty gots
   AreRouted (sent ∷ sents) gots = (of_first of_others : List (List X)) × Interleaved of_first sent

@@ -24,9 +24,9 @@ pub fn what_was_sent_is_what_was_got<T, A: Allocator>()
         → IsWhole capacity all (Some 0) → AreExchanged sents gots }
 {}
 
-/// If the parties' actions are all there were, each party made whole calls, and so many messages are
-/// left, then what they sent is what they got, and behind it what is left. These are at most as many
-/// as the capacity, or as there are parties, whichever is greater.
+/// If the parties' actions are all there were, each party made whole calls, and so many messages
+/// are left, then what they sent is what they got, and behind it what is left. These are at most as
+/// many as the capacity, or as there are parties, whichever is greater.
 pub fn what_is_left_was_sent_last<T, A: Allocator>()
     ensures law { (capacity : Option ℕ) (n : ℕ) (parties : List (List (Action T A)))
         (all : List (Action T A)) (sents gots : List (List T)) → Interleaved parties all
@@ -34,9 +34,9 @@ pub fn what_is_left_was_sent_last<T, A: Allocator>()
         → IsExchangedSoFar capacity (length parties) sents gots n }
 {}
 
-/// If what some parties sent is what some parties got, in one line, then what one receiver got of one
-/// sender stands in the lists of both, in the order of both; and together these are all that was
-/// sent, and all that was got.
+/// If what some parties sent is what some parties got, in one line, then what one receiver got of
+/// one sender stands in the lists of both, in the order of both; and together these are all that
+/// was sent, and all that was got.
 pub fn each_pair_keeps_its_order<T>()
     ensures law { (sents gots : List (List T)) → AreExchanged sents gots → AreRouted sents gots }
 {}

@@ -1,8 +1,9 @@
--- What is exchanged or routed between one sender and one receiver, what of a list is in its order, and
--- runs.
+-- What is exchanged or routed between one sender and one receiver, what of a list is in its order,
+-- and runs.
 use Rattle.std.proofs.Common.{rules, ◌≡◌, ◌==◌, ℕ, Bool, true, false, ◌&&◌, ◌||◌, List, [], ◌∷◌, Ok}
 use Rattle.std.proofs.Common.{◌++◌, Err, Some, None, refl, sym, subst, ◌∙◌, arith, eq-eqb}
 use Rattle.flume_core.specs.declared.error.RecvTimeoutError.TheVariants.{Timeout}
+use Rattle.flume_core.specs.declared.error.SendTimeoutError.TheVariants as send_error
 use Rattle.flume_calls.specs.declared.calls.receive.RecvNext.TheVariants as receive
 use Rattle.flume_calls.specs.declared.calls.send.SendNext.TheVariants.{Done}
 use Rattle.flume_model.specs.declared.step.Kind.TheVariants.{Plain}
@@ -11,14 +12,17 @@ use Rattle.flume_model.specs.declared.step.Reply.TheVariants.{Parked, Gone}
 use Rattle.flume_party.specs.Interleavings.{Interleaving, End, Left, Right}
 use Rattle.flume_party.proofs.InterleavingLemmas.{interleaved_alone}
 use Rattle.flume_actions.specs.Actions.{IsPart, IsWhole}
+use Rattle.flume_actions.specs.SendCalls.{IsPolledSend}
+use Rattle.flume_actions.specs.SendCalls as send_calls
 use Rattle.flume_actions.specs.ReceiveCalls.{Polled, Left as LeftBy}
 use Rattle.flume_actions.specs.Calls.{AreCalls, AndCall, NoCalls, TriesToSend, TriesToReceive}
 use Rattle.flume_actions.specs.Calls.{PollsToReceive}
 use Rattle.flume_laws.specs.Together.{Interleaved, AreEmpty, EachMerged, NoList, AndLists}
-use Rattle.flume_laws.specs.Together.{EachAreCalls, AndParty, NoParty, AreExchangedInPhases}
+use Rattle.flume_laws.specs.Together.{EachAreCalls, AndParty, NoParty, AreExchanged}
+use Rattle.flume_laws.specs.Together.{AreExchangedInPhases}
 use Rattle.flume_laws.proofs.TakeInLemmas.{one_in_order, two_in_order}
 use Rattle.test_parties.specs.NearMisses.{one_sent, one_got, waited_for, sends, both_got}
-use Rattle.test_parties.specs.NearMisses.{two_exchanged}
+use Rattle.test_parties.specs.NearMisses.{two_exchanged, comes_back}
 
 -- an interleaving begins as one of its lists
 pub begins_so : {xs ys zs : List ℕ} → Interleaving xs ys zs → xs ≡ 1 ∷ 2 ∷ [] → ys ≡ 3 ∷ []
@@ -143,3 +147,24 @@ second_first all =
     subst (λ (t : List ℕ × List ℕ × List ℕ). is_sublist (t.0 ++ t.1) t.2 ≡ true)
     (λ i. (first i, second i, line i)) found in
     cc
+
+-- one asked 1 and 2, another 3, and the server got 1, 3 and 2
+pub three_asked : AreExchanged ((1 ∷ 2 ∷ []) ∷ (3 ∷ []) ∷ []) ((1 ∷ 3 ∷ 2 ∷ []) ∷ [])
+three_asked = (
+  1 ∷ 3 ∷ 2 ∷ [],
+  (3 ∷ [], ([], refl, Left End), Left (Right (Left End))),
+  ([], refl, Left (Left (Left End))),
+)
+
+-- the run in which a blocked message came back, and the call that got a message back
+pub blocked_is_whole : IsWhole (Some 0) (comes_back 1) (Some 0)
+blocked_is_whole = record {
+  history = comes_back 1;
+  all = refl;
+  run = search rules;
+  counted = λ n is. (cc is, refl);
+  uncounted = λ none. absurd cc;
+}
+
+pub came_back : (message : ℕ) → IsPolledSend 1 (comes_back message) (Err (send_error.Timeout message))
+came_back message = send_calls.Polled refl (send_calls.Left refl)

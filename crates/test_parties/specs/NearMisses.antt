@@ -1,10 +1,20 @@
--- Histories for near-misses, and laws of parties without one of their premises, or with another bound.
-use Rattle.std.specs.Prelude.{◌≡◌, ℕ, false, List, [], ◌∷◌, ◌++◌, map, Option, Some, None}
+-- Histories for near-misses, and laws of parties without one of their premises, or with another
+-- bound.
+use Rattle.std.specs.Prelude.{◌≡◌, ℕ, Bool, true, false, not, List, [], ◌∷◌, ◌++◌, map, Option}
+use Rattle.std.specs.Prelude.{Some}
+use Rattle.std.specs.Prelude.{None, Err}
+use Rattle.std.specs.List.{All, Contains, filter, list_all}
+use Rattle.flume_error.specs.Messages.{send_timeout_message}
+use Rattle.flume_core.specs.declared.error.SendTimeoutError.{SendTimeoutError}
 use Rattle.flume_model.specs.declared.step.Kind.TheVariants.{Plain}
-use Rattle.flume_model.specs.declared.step.Step.TheVariants.{TrySend, Send, TryRecv, Recv, Withdraw}
-use Rattle.flume_model.specs.declared.step.Reply.TheVariants.{Sent, Full, Pending, Got, Parked, Gone}
+use Rattle.flume_model.specs.declared.step.Step.TheVariants.{TrySend, Send, WithdrawSend, TryRecv}
+use Rattle.flume_model.specs.declared.step.Step.TheVariants.{Recv}
+use Rattle.flume_model.specs.declared.step.Step.TheVariants.{Withdraw}
+use Rattle.flume_model.specs.declared.step.Reply.TheVariants.{Sent, Full, Pending, Returned, Got}
+use Rattle.flume_model.specs.declared.step.Reply.TheVariants.{Parked, Gone}
 use Rattle.flume_party.specs.Interleavings.{Interleaving}
 use Rattle.flume_actions.specs.Actions.{Action, IsWhole}
+use Rattle.flume_actions.specs.SendCalls.{IsPolledSend}
 use Rattle.flume_laws.specs.Together.{Interleaved, EachAreCalls, AreExchanged, IsExchangedSoFar}
 use Rattle.flume_laws.specs.Together.{AreExchangedInPhases, sum_over_all}
 
@@ -50,8 +60,8 @@ both_got = (TryRecv, Got 1) ∷ (TryRecv, Got 2) ∷ []
 abbrev pub two_exchanged : List (Action ℕ (Unit {0}))
 two_exchanged = sends 1 ++ (sends 2 ++ both_got)
 
--- after whole calls that emptied the channel, the sum over what was sent is that over what was got, if
--- what each party got is changed so
+-- after whole calls that emptied the channel, the sum over what was sent is that over what was got,
+-- if what each party got is changed so
 abbrev pub SumLawWith : (List ℕ → List ℕ) → Type 0
 SumLawWith change = (capacity : Option ℕ) (parties : List (List (Action ℕ (Unit {0}))))
     (all : List (Action ℕ (Unit {0}))) (sents gots : List (List ℕ)) → Interleaved parties all
@@ -68,3 +78,26 @@ LateLaw = (capacity : Option ℕ) (parties parties' parties'' : List (List (Acti
     → Interleaved parties'' others → EachAreCalls parties'' sents'' gots''
     → Interleaving (early ++ late) others all → IsWhole capacity all (Some 0)
     → AreExchangedInPhases sents' sents sents'' (gots'' ++ (gots' ++ gots))
+
+-- what one client asked is what passes the test, of what one server got, if that is changed so, and
+-- if this holds of the requests of the other clients
+abbrev pub ToldApartLawWith : (List ℕ → List ℕ) → (fails : (ℕ → Bool) → List (List ℕ) → Type 0)
+    → Type 0
+ToldApartLawWith change fails = (test : ℕ → Bool) (before after : List (List ℕ)) (own got : List ℕ)
+    → AreExchanged (before ++ own ∷ after) (got ∷ []) → list_all test own ≡ true
+    → fails test (before ++ after) → filter test (change got) ≡ own
+
+-- no request of the others passes the test
+abbrev pub none_passes : (ℕ → Bool) → List (List ℕ) → Type 0
+none_passes test others = list_all (list_all (λ x. not (test x))) others ≡ true
+
+-- 1 was blocked, and then a message came back to its sender
+abbrev pub comes_back : ℕ → List (Action ℕ (Unit {0}))
+comes_back message = (Send 1, Pending 1) ∷ (WithdrawSend 1, Returned message false) ∷ []
+
+-- if this holds of all actions, a polled send that failed gave back this message in place of its
+-- own
+abbrev pub ComesBackLawWith : (holds : List (Action ℕ (Unit {0})) → Type 0) → (ℕ → ℕ) → Type 0
+ComesBackLawWith holds change = (all made : List (Action ℕ (Unit {0}))) (message : ℕ)
+    (error : SendTimeoutError ℕ) → holds all → All (Contains all) made
+    → IsPolledSend message made (Err error) → send_timeout_message error ≡ change message

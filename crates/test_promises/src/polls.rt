@@ -1,5 +1,7 @@
 //! Polls of sinks and streams.
+ghost use Rattle.std.specs.Prelude.{◌≡◌, [], Ok};
 ghost use Rattle.flume.specs.LockedPolls.{answer_of};
+ghost use Rattle.flume.specs.ManySendCalls.{IsEndOf, PollLeaves};
 ghost use Rattle.flume.specs.ManySendPolls.{PollsSends};
 ghost use Rattle.flume.specs.ReceivePolls.{HasPolledReceive};
 
@@ -19,6 +21,10 @@ pub fn poll_all<T: Drop, R: Waits, A: Allocator + Copy>(
 ) -> Poll<Result<(), SendError<T>>>
     ensures polled { PollsSends A sink.old.future.send messages.old.items messages.new.items
         sink.new.future.send (answer_of result) }
+    ensures all { result ≡ Poll.Ready (Ok tt) → messages.new.items ≡ [] }
+    ensures rest { IsEndOf messages.old.items messages.new.items }
+    ensures leaves { PollLeaves sink.old.future.send messages.old.items messages.new.items
+        (answer_of result) }
 {
     sink.poll_send_many(cx, messages)
 }

@@ -1,10 +1,14 @@
 //! Receives from channels with a trace.
-ghost use Rattle.std.specs.Prelude.{[], ◌++◌, option_to_list};
-ghost use Rattle.flume_deadline.specs.declared.Deadline.{Deadline};
-ghost use Rattle.flume_actions.specs.Calls.{HasCalled, got_by, drained_by};
+ghost use Rattle.std.specs.Prelude.{◌≢◌, [], ◌++◌, Err, option_to_list};
+ghost use Rattle.flume_model.specs.declared.step.Step.TheVariants.{TryRecv, Drain};
+ghost use Rattle.flume_calls.specs.ReceiveTurns.{after_try_recv};
+ghost use Rattle.flume_actions.specs.Calls.{HasCalled, HasReceived, HasStepped};
+ghost use Rattle.flume_actions.specs.Calls.{got_by, drained_by};
 ghost use Rattle.flume_actions.specs.Callers.{HasMadeCalls};
 ghost use Rattle.flume_laws.specs.Offered.{WereOffered};
-ghost use Rattle.flume.specs.GateSteps.{Receives};
+ghost use Rattle.flume.specs.CallSteps.{try_receive_as_turn, receive_as_timed};
+ghost use Rattle.flume.specs.Iterators.{after_drain};
+ghost use Rattle.test_promises.specs.Receives.{HasReceivedTwo};
 
 use flume::error::NoMemory;
 use flume::traced::{ChannelName, ChannelParty, Traced, TracedReceiver};
@@ -12,36 +16,41 @@ use flume::{Drain, Iter, RecvError, RecvTimeoutError, TryRecvError, Waits};
 use std::alloc::{Allocator, Global};
 use std::time::Instant;
 
-/// Takes the next message, and doesn't wait. The party made one call, which got that message if the
-/// result is `Ok`, and nothing otherwise.
+/// Takes the next message, and doesn't wait. The party made one call, a try, which got that message
+/// if the result is `Ok`, and nothing otherwise. The result is the one to the channel's reply.
 pub fn try_receive<T: Drop, J: ChannelName, R: Waits>(
     rx: &TracedReceiver<T, R, J>,
     me: &mut ChannelParty<T, J>,
 ) -> Result<T, TryRecvError>
     ensures got { HasCalled me.old me.new [] (got_by result) }
+    ensures made { HasStepped TryRecv after_try_recv me.old (try_receive_as_turn result) me.new }
+    ensures never_no_memory { result ≢ Err TryRecvError.NoMemory }
 {
     rx.try_recv(me)
 }
 
-/// Takes the next message, and waits while there is none. The party made one call, which got that
-/// message if the result is `Ok`, and nothing otherwise.
+/// Takes the next message, and waits while there is none. The party made one receive with this
+/// result, which got that message if it is `Ok`, and nothing otherwise.
 pub fn receive<T: Drop, J: ChannelName, R: Waits>(
     rx: &TracedReceiver<T, R, J>,
     me: &mut ChannelParty<T, J>,
 ) -> Result<T, RecvError>
     ensures got { HasCalled me.old me.new [] (got_by result) }
+    ensures made { HasReceived me.old me.new (receive_as_timed result) }
 {
     rx.recv(me)
 }
 
-/// Takes the next two messages, waits for each, and confirms. The party made whole calls, which got
-/// what the results have. That was offered in this very channel, in this order, and none of it went
-/// back to its sender, whatever others did there.
+/// Takes the next two messages, waits for each, and confirms. The party made two receives with these
+/// results. What they got was offered in this very channel, in this order, and none of it went back
+/// to its sender, whatever others did there.
 pub fn receive_two<T: Drop, J: ChannelName, R: Waits>(
     rx: &TracedReceiver<T, R, J>,
     me: &mut ChannelParty<T, J>,
 ) -> (Result<T, RecvError>, Result<T, RecvError>)
     ensures got { HasMadeCalls me.old me.new [] (got_by result.0 ++ got_by result.1) }
+    ensures made { HasReceivedTwo me.old me.new (receive_as_timed result.0)
+        (receive_as_timed result.1) }
     ensures offered { WereOffered J.identity.capacity me.new.actions
         (got_by result.0 ++ got_by result.1) }
 {
@@ -51,16 +60,16 @@ pub fn receive_two<T: Drop, J: ChannelName, R: Waits>(
     (first, second)
 }
 
-/// Takes the next message, and waits up to the deadline. The party made one call, whose steps are
-/// those of a receive up to this deadline. It got that message if the result is `Ok`, and nothing
-/// otherwise.
+/// Takes the next message, and waits up to the deadline. The party made one receive with this
+/// result, which got that message if it is `Ok`, and nothing otherwise. It says that it was late only
+/// if it withdrew. No clause says what a clock showed.
 pub fn receive_in_time<T: Drop, J: ChannelName, R: Waits, A: Allocator + Copy>(
     rx: &TracedReceiver<T, R, J, A>,
     me: &mut ChannelParty<T, J, A>,
     deadline: Instant,
 ) -> Result<T, RecvTimeoutError>
     ensures got { HasCalled me.old me.new [] (got_by result) }
-    ensures in_time { Receives A (Deadline.At deadline) result }
+    ensures made { HasReceived me.old me.new result }
 {
     rx.recv_deadline(me, deadline)
 }
@@ -72,6 +81,7 @@ pub fn receive_all<'a, T: Drop, J: ChannelName, R: Waits>(
     me: &mut ChannelParty<T, J>,
 ) -> Result<Drain<'a, T>, NoMemory>
     ensures got { HasCalled me.old me.new [] (drained_by result) }
+    ensures made { HasStepped Drain after_drain me.old result me.new }
 {
     rx.drain(me)
 }

@@ -1,5 +1,6 @@
 //! Selections, of whichever arms a selector has.
-ghost use Rattle.flume.specs.SelectionCalls.{Tries};
+ghost use Rattle.flume_deadline.specs.declared.Deadline.{Deadline};
+ghost use Rattle.flume.specs.SelectionCalls.{Selects, Tries};
 ghost use Rattle.flume.specs.SelectionParties.{HasSelected};
 
 use flume::error::NoMemory;
@@ -21,8 +22,8 @@ pub fn try_arms<V, L: AtLeastOneArm<V, A> + Drop, A: Allocator + Copy>(
 }
 
 /// Waits for the first of several arms up to the deadline. The parties of the arms come back. After
-/// a value, the clause says what they did if one of the arms completed with that value; after an
-/// error, what they did if none completed.
+/// a value, `selected` says what they did if one of the arms completed with that value; after an
+/// error, what they did if none completed. `made` says that each arm was tried, and which was last.
 pub fn select_in_time<V: Drop, L, A: Allocator + Copy>(
     selector: Selector<'_, V, L, A>,
     deadline: Instant,
@@ -31,6 +32,8 @@ where
     L: AtLeastOneArm<V, A> + ArmsBy<V, A> + Drop,
     requires can_map { L.can_map (L.mappers selector.arms) }
     requires no_arm_has_completed { L.all_idle selector.arms }
+    ensures made { Selects L.turns L.withdraws L.answers (L.count (L.mappers selector.entry.arms))
+        selector.entry.start (Deadline.At deadline) selector.entry.arms result.0 }
     ensures selected { HasSelected L.completes L.stand_by (L.mappers selector.entry.arms) result.0
         result.1 }
 {

@@ -1,10 +1,10 @@
 //! A receive as a future, of a receiver with a trace.
-ghost use Rattle.std.specs.Prelude.{◌≡◌, [], None, IsSomeAnd};
+ghost use Rattle.std.specs.Prelude.{◌≡◌, [], Some, None, Ok, IsSomeAnd};
 ghost use Rattle.futures.specs.Task.{Covers, Keeps};
 ghost use Rattle.flume_party.specs.Parties.{PartyState};
 ghost use Rattle.flume_actions.specs.Actions.{Action};
-ghost use Rattle.flume_actions.specs.Calls.{got_by};
 ghost use Rattle.flume_actions.specs.Callers.{HasMadeCalls};
+ghost use Rattle.flume.specs.EndedCalls.{GivesReceive, HasEndedReceive};
 ghost use Rattle.flume.specs.TracedPolls.{CanReceive, ReceivesOn, got_if};
 
 use crate::receiver::Receiver;
@@ -65,6 +65,9 @@ impl<T: Drop, R: Waits, A: Allocator + Copy, J: ChannelName> Shared<T, R, A, Tra
     ) -> Option<T>
         ensures left { (start : PartyState (Action T A)) → CanReceive start call.old.call me.old
             → HasMadeCalls start me.new [] (got_if result) }
+        ensures got { (start : PartyState (Action T A)) → CanReceive start call.old.call me.old
+            → (message : T) → result ≡ Some message → HasEndedReceive start me.new (Ok message) }
+        ensures unparked { call.old.call ≡ None → (me.new ≡ me.old) × (result ≡ None) }
     {
         let leaves = call.end()?;
         match self.call_cold(me, leaves) {
@@ -130,6 +133,8 @@ impl<'a, T: Drop, R: Waits, A: Allocator + Copy, J: ChannelName> PartyRecvFut<
         requires can_poll { IsSomeAnd self.old.me
             (CanReceive self.old.start.value self.old.call.call) }
         ensures called { HasMadeCalls self.old.start.value result.0 [] (got_if result.1) }
+        ensures unparked { self.old.call.call ≡ None
+            → (self.old.me ≡ Some result.0) × (result.1 ≡ None) }
     {
         let Some(mut me) = self.me.take() else {
             unreachable!();
@@ -147,8 +152,7 @@ impl<T: Drop, R: Waits, A: Allocator + Copy, J: ChannelName> Future
     ghost can_poll = { λ future.
         IsSomeAnd future.me (CanReceive future.start.value future.call.call) };
 
-    ghost gives = { λ future answer.
-        HasMadeCalls future.start.value answer.0 [] (got_by answer.1) };
+    ghost gives = { λ future answer. GivesReceive future.start.value answer.0 answer.1 };
 
     ghost needs = { λ future source. source ≡ future.task.source.id };
 

@@ -1,9 +1,10 @@
 //! A send as a future, of a sender with a trace.
-ghost use Rattle.std.specs.Prelude.{◌≡◌, [], IsSomeAnd};
+ghost use Rattle.std.specs.Prelude.{◌≡◌, [], Some, Err, IsSomeAnd};
 ghost use Rattle.flume_party.specs.Parties.{PartyState};
 ghost use Rattle.flume_actions.specs.Actions.{Action};
 ghost use Rattle.flume_actions.specs.Calls.{sent_by};
 ghost use Rattle.flume_actions.specs.Callers.{HasMadeCalls};
+ghost use Rattle.flume.specs.EndedCalls.{GivesSend};
 ghost use Rattle.flume.specs.TracedPolls.{CanSend};
 
 use crate::sender::Sender;
@@ -66,6 +67,8 @@ impl<T: Drop, R: Waits, A: Allocator + Copy, J: ChannelName> Shared<T, R, A, Tra
         ensures back { (start : PartyState (Action T A)) (message : T)
             → CanSend start message send.old me.old
             → HasMadeCalls start me.new (sent_by message result) [] }
+        ensures unsent { (message : T) → send.old ≡ PolledSend.Unsent message
+            → (me.new ≡ me.old) × (result ≡ Err message) }
     {
         let call = match replace(send, PolledSend::Finished) {
             PolledSend::Unsent(message) => return Err(message),
@@ -122,6 +125,8 @@ impl<'a, T: Drop, R: Waits, A: Allocator + Copy, J: ChannelName> PartySendFut<
             (CanSend self.old.start.value self.old.message.value self.old.send) }
         ensures called { HasMadeCalls self.old.start.value result.0
             (sent_by self.old.message.value result.1) [] }
+        ensures unsent { (message : T) → self.old.send ≡ PolledSend.Unsent message
+            → (self.old.me ≡ Some result.0) × (result.1 ≡ Err message) }
     {
         let Some(mut me) = self.me.take() else {
             unreachable!();
@@ -139,8 +144,8 @@ impl<T: Drop, R: Waits, A: Allocator + Copy, J: ChannelName> Future
     ghost can_poll = { λ future.
         IsSomeAnd future.me (CanSend future.start.value future.message.value future.send) };
 
-    ghost gives = { λ future answer. HasMadeCalls future.start.value answer.0
-        (sent_by future.message.value answer.1) [] };
+    ghost gives = { λ future answer.
+        GivesSend future.start.value future.message.value answer.0 answer.1 };
 
     ghost needs = { λ future source. source ≡ future.task.source.id };
 

@@ -5,6 +5,7 @@ ghost use Rattle.futures.specs.Task.{Covers, Keeps};
 ghost use Rattle.futures.specs.Poll.{IfReady, OnPending};
 ghost use Rattle.futures.specs.Sent.{UnlessFailed};
 ghost use Rattle.flume_actions.specs.Callers.{HasMadeCalls};
+ghost use Rattle.flume.specs.EndedCalls.{AnswersSink};
 ghost use Rattle.flume.specs.TracedPolls.{CanSink, sent_of};
 
 use crate::sender::Sender;
@@ -103,6 +104,8 @@ impl<'a, T: Drop, R: Waits, A: Allocator + Copy, J: ChannelName> PartySendSink<
         ensures kept { Keeps cx.old cx.new }
         ensures called { IfReady result (λ answer. HasMadeCalls self.old.start.value
             self.new.start.value (sent_of self.old.sending answer) []) }
+        ensures answered { IfReady result
+            (AnswersSink self.old.start.value self.old.sending self.new.start.value) }
         ensures can_poll { IsSomeAnd self.new.me (CanSink self.new.start.value self.new.sending) }
         ensures waits { OnPending result (self.new.start ≡ self.old.start) }
         ensures offers { OnPending result ((answer : Result (Unit {0}) (SendError T))
@@ -160,6 +163,8 @@ impl<T: Drop, R: Waits, A: Allocator + Copy, J: ChannelName> Sink<T>
         ensures kept { Keeps cx.old cx.new }
         ensures called { IfReady result (λ answer. HasMadeCalls self.old.start.value
             self.new.start.value (sent_of self.old.sending answer) []) }
+        ensures answered { IfReady result
+            (AnswersSink self.old.start.value self.old.sending self.new.start.value) }
         ensures can_poll { IsSomeAnd self.new.me (CanSink self.new.start.value self.new.sending) }
         ensures waits { OnPending result (self.new.start ≡ self.old.start) }
         ensures offers { OnPending result ((answer : Result (Unit {0}) (SendError T))
@@ -204,6 +209,8 @@ impl<T: Drop, R: Waits, A: Allocator + Copy, J: ChannelName> Sink<T>
         ensures kept { Keeps cx.old cx.new }
         ensures called { IfReady result (λ answer. HasMadeCalls self.old.start.value
             self.new.start.value (sent_of self.old.sending answer) []) }
+        ensures answered { IfReady result
+            (AnswersSink self.old.start.value self.old.sending self.new.start.value) }
         ensures can_poll { IsSomeAnd self.new.me (CanSink self.new.start.value self.new.sending) }
         ensures waits { OnPending result (self.new.start ≡ self.old.start) }
         ensures offers { OnPending result ((answer : Result (Unit {0}) (SendError T))
@@ -224,6 +231,8 @@ impl<T: Drop, R: Waits, A: Allocator + Copy, J: ChannelName> Sink<T>
         ensures kept { Keeps cx.old cx.new }
         ensures called { IfReady result (λ answer. HasMadeCalls self.old.start.value
             self.new.start.value (sent_of self.old.sending answer) []) }
+        ensures answered { IfReady result
+            (AnswersSink self.old.start.value self.old.sending self.new.start.value) }
         ensures can_poll { IsSomeAnd self.new.me (CanSink self.new.start.value self.new.sending) }
         ensures waits { OnPending result (self.new.start ≡ self.old.start) }
         ensures offers { OnPending result ((answer : Result (Unit {0}) (SendError T))

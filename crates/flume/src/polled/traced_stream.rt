@@ -1,9 +1,12 @@
 //! The messages of a receiver with a trace, as a stream.
-ghost use Rattle.std.specs.Prelude.{◌≡◌, [], ⊤, true, false, None, option_to_list, IfSome, OnSome};
+ghost use Rattle.std.specs.Prelude.{◌≡◌, [], ⊤, true, false, Some, None, option_to_list, IfSome};
+ghost use Rattle.std.specs.Prelude.{OnSome};
 ghost use Rattle.futures.specs.Task.{Covers, Keeps};
 ghost use Rattle.futures.specs.Poll.{IfReady, OnPending};
 ghost use Rattle.futures.specs.Runs.{After, Within};
 ghost use Rattle.flume_actions.specs.Callers.{HasMadeCalls};
+ghost use Rattle.flume.specs.EndedCalls.{AnswersReceive};
+ghost use Rattle.flume.specs.ReceivePolls.{answer_of_item};
 ghost use Rattle.flume.specs.TracedPolls.{CanReceive, got_if};
 
 use crate::receiver::Receiver;
@@ -86,6 +89,8 @@ impl<'a, T: Drop, R: Waits, A: Allocator + Copy, J: ChannelName> PartyRecvStream
     pub fn cancel(self) -> (ChannelParty<T, J, A>, Option<T>)
         requires can_poll { CanReceive self.start.value self.call.call self.me }
         ensures called { HasMadeCalls self.entry.start.value result.0 [] (got_if result.1) }
+        ensures unparked { self.entry.call.call ≡ None
+            → (result.0 ≡ self.entry.me) × (result.1 ≡ None) }
     {
         let Self {
             receiver,
@@ -97,6 +102,17 @@ impl<'a, T: Drop, R: Waits, A: Allocator + Copy, J: ChannelName> PartyRecvStream
         } = self;
         let message = receiver.shared().leave(&mut me, &mut call);
         (me, message)
+    }
+}
+
+// What a stream gives, and whether that is for want of memory.
+fn as_item<T>(answer: Result<T, RecvError>) -> (Option<T>, bool)
+    ensures answer { answer_of_item (Poll.Ready result.0) result.1 ≡ Some answer }
+    ensures ends { result.1 ≡ true → result.0 ≡ None }
+{
+    match answer {
+        Ok(message) => (Some(message), false),
+        Err(error) => (None, error == RecvError::NoMemory),
     }
 }
 
@@ -125,6 +141,8 @@ impl<T: Drop, R: Waits, A: Allocator + Copy, J: ChannelName> Stream
         ensures kept { Keeps cx.old cx.new }
         ensures called { IfReady result (λ item. HasMadeCalls self.old.start.value
             self.new.start.value [] (option_to_list item)) }
+        ensures answered { IfSome (answer_of_item result self.new.fault)
+            (AnswersReceive self.old.start.value self.new.start.value) }
         ensures can_poll { CanReceive self.new.start.value self.new.call.call self.new.me }
         ensures waits { OnPending result (self.new.start ≡ self.old.start) }
         ensures fault { self.new.fault ≡ true → result ≡ Poll.Ready None }
@@ -136,8 +154,9 @@ impl<T: Drop, R: Waits, A: Allocator + Copy, J: ChannelName> Stream
         };
         self.start = Snapshot::of(&self.me);
         self.call = PolledReceive::new(Kind::Stream);
-        self.fault = matches!(answer, Err(RecvError::NoMemory));
-        Poll::Ready(answer.ok())
+        let (item, fault) = as_item(answer);
+        self.fault = fault;
+        Poll::Ready(item)
     }
 }
 

@@ -1,12 +1,13 @@
 //! Sends of many messages by a party.
 ghost use Rattle.std.specs.Prelude.{◌≡◌, Vec, vec_items, Err};
 ghost use Rattle.flume_deadline.specs.declared.Deadline.{Deadline};
+ghost use Rattle.flume_deadline.specs.declared.Deadline.TheVariants.{Never};
 ghost use Rattle.flume_deadline.specs.Deadlines.{IsAfter};
 ghost use Rattle.flume_calls.specs.ManySends.{IsRest};
 ghost use Rattle.flume.specs.CallSteps as answer;
 ghost use Rattle.flume.specs.ManySendCalls.{IsRestAfterWait};
-ghost use Rattle.flume.specs.ManySendSteps.{SendsManyUpTo, try_result_list, result_list};
-ghost use Rattle.flume.specs.TracedSends.{HasSentMany, HasTriedMany};
+ghost use Rattle.flume.specs.ManySendSteps.{BatchOf, SendsManyOf, try_result_list, result_list};
+ghost use Rattle.flume.specs.TracedSends.{HasSentMany, HasTriedMany, has_added};
 
 use crate::answers::send_answer;
 use crate::sender::Sender;
@@ -19,13 +20,16 @@ use std::time::{Duration, Instant};
 
 impl<T: Drop, R: Waits, A: Allocator + Copy, J: ChannelName> Sender<T, R, A, Traced<T, A, J>> {
     /// As of a sender without a trace. The steps are whole calls, which sent the messages in order.
-    /// After an error they sent only the first ones, and the error has as many as the others.
+    /// After an error they sent only the first ones, and the error has as many as the others. A
+    /// reply of this channel was the reason for the error.
     pub fn try_send_many(
         &self,
         me: &mut ChannelParty<T, J, A>,
         messages: Vec<T, A>,
     ) -> Result<(), TrySendError<Vec<T, A>>>
         ensures called { HasTriedMany me.old messages.items me.new
+            (try_result_list vec_items result) }
+        ensures made { BatchOf has_added me.old messages.items me.new
             (try_result_list vec_items result) }
         ensures full { (rest : Vec T A) → result ≡ Err (TrySendError.Full rest)
             → IsRest messages.items rest.items }
@@ -45,6 +49,8 @@ impl<T: Drop, R: Waits, A: Allocator + Copy, J: ChannelName> Sender<T, R, A, Tra
     ) -> Result<(), SendError<Vec<T, A>>>
         ensures called { HasSentMany me.old messages.items me.new
             (result_list vec_items (answer.send_as_timed result)) }
+        ensures made { SendsManyOf has_added Never me.old messages.items me.new
+            (result_list vec_items (answer.send_as_timed result)) }
         ensures disconnected { (rest : Vec T A) → result ≡ Err (SendError.Disconnected rest)
             → IsRestAfterWait messages.items rest.items }
         ensures no_memory { (rest : Vec T A) → result ≡ Err (SendError.NoMemory rest)
@@ -61,7 +67,7 @@ impl<T: Drop, R: Waits, A: Allocator + Copy, J: ChannelName> Sender<T, R, A, Tra
         deadline: Instant,
     ) -> Result<(), SendTimeoutError<Vec<T, A>>>
         ensures called { HasSentMany me.old messages.items me.new (result_list vec_items result) }
-        ensures sends { SendsManyUpTo A (Deadline.At deadline) messages.items
+        ensures made { SendsManyOf has_added (Deadline.At deadline) me.old messages.items me.new
             (result_list vec_items result) }
         ensures timeout { (rest : Vec T A) → result ≡ Err (SendTimeoutError.Timeout rest)
             → IsRestAfterWait messages.items rest.items }
@@ -81,8 +87,9 @@ impl<T: Drop, R: Waits, A: Allocator + Copy, J: ChannelName> Sender<T, R, A, Tra
         timeout: Duration,
     ) -> Result<(), SendTimeoutError<Vec<T, A>>>
         ensures called { HasSentMany me.old messages.items me.new (result_list vec_items result) }
-        ensures sends { (deadline : Deadline) × IsAfter timeout deadline
-            × SendsManyUpTo A deadline messages.items (result_list vec_items result) }
+        ensures made { (deadline : Deadline) × IsAfter timeout deadline
+            × SendsManyOf has_added deadline me.old messages.items me.new
+            (result_list vec_items result) }
         ensures timeout { (rest : Vec T A) → result ≡ Err (SendTimeoutError.Timeout rest)
             → IsRestAfterWait messages.items rest.items }
         ensures disconnected { (rest : Vec T A) → result ≡ Err (SendTimeoutError.Disconnected rest)

@@ -1,6 +1,6 @@
 use Rattle.std.proofs.Common.{rules, []}
 use Rattle.flume_actions.specs.Callers.{HasMadeCalls}
-use Rattle.flume_laws.proofs.TakeInLemmas.{none_taken_in, split_off, take_in_sender, emptied}
+use Rattle.flume_laws.proofs.TakeInLemmas.{none_taken_in, split_off, take_in_sender}
 use Rattle.flume_laws.proofs.GoOnLemmas.{go_on_sender, take_in_further_receiver, one_behind_two}
 use Rattle.example_transfers.specs.Phases.{HasSentInPhases}
 use Rattle.example_transfers.proofs.phases.phases_named.Goals as goal
@@ -15,11 +15,12 @@ returns g c =
     search rules in
     let got : HasMadeCalls c.split_off-receiver.result c.in_ok-got.got.me []
     c.in_ok-got.got.items.items = search rules in
-    let none = split_off (split_off (split_off (none_taken_in c.in_ok-tx.ensures.party) first.rest)
-    second.rest) receiver.rest in
+    let none = none_taken_in (split_off (split_off (split_off c.in_ok-tx.ensures.party first.rest)
+    second.rest) receiver.rest) in
     let early = take_in_sender (take_in_sender none first.new sent.one_sent sent.one_merged)
     second.new sent.other_sent sent.other_merged in
     let all = take_in_further_receiver (go_on_sender early sent.sent) receiver.new got
     c.merge.ensures.merged in
-    let whole = emptied c.in-Some-eq0.ensures.whole c.in-Some-eq0.field-0-test in
-    record { phases = one_behind_two all whole }
+    record {
+      phases = one_behind_two all c.in-Some-eq0.ensures.whole c.in-Some-eq0.field-0-test;
+    }

@@ -12,8 +12,8 @@ returns-clause-window g c =
     c.in_ok-sent.field-0.1.items [] = search rules in
     let got : HasMadeCalls c.split_off-receiver.result c.in_ok-receiver.field-0.0 []
     c.in_ok-receiver.field-0.1.items = search rules in
-    let none = split_off (split_off (none_taken_in c.in_ok-tx.ensures.party) sender.rest)
-    receiver.rest in
+    let none = none_taken_in (split_off (split_off c.in_ok-tx.ensures.party sender.rest)
+    receiver.rest) in
     let all = take_in_receiver (take_in_sender none sender.new sent c.merge.ensures.merged)
     receiver.new got c.merge-2.ensures.merged in
     let capacity = sym (ap (λ channel. channel.capacity) c.requires.named) ∙ c.requires.bounded in

@@ -1,5 +1,5 @@
 -- A receive without a deadline is never late, and a receive answered all that isn't late.
-use Rattle.flume.specs.PartyIterators.{TooLate, Received}
+use Rattle.flume.specs.PartyIterators.{Received}
 use Rattle.flume.proofs.InTimeLemmas.{receive_in_time}
 use Rattle.flume.proofs.deadline_iter.receive.Goals as goal
 

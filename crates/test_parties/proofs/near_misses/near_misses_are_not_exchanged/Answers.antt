@@ -1,15 +1,10 @@
-use Rattle.std.proofs.Common.{[], ◌∷◌, refl}
-use Rattle.flume_party.specs.Interleavings.{End, Left, Right}
+use Rattle.std.proofs.Common.{refl}
 use Rattle.flume_laws.proofs.TakeInLemmas.{same_in_order, one_in_order}
-use Rattle.test_parties.proofs.NearMissLemmas.{begins_so}
+use Rattle.test_parties.proofs.NearMissLemmas.{begins_so, three_asked}
 use Rattle.test_parties.proofs.near_misses.near_misses_are_not_exchanged.Goals as goal
 
 pub returns-clause-exchanged : goal.returns-clause-exchanged
-returns-clause-exchanged c = (
-  1 ∷ 3 ∷ 2 ∷ [],
-  (3 ∷ [], ([], refl, Left End), Left (Right (Left End))),
-  ([], refl, Left (Left (Left End))),
-)
+returns-clause-exchanged c = three_asked
 
 pub returns-clause-swapped : goal.returns-clause-swapped
 returns-clause-swapped c = λ all. cc (same_in_order all)

@@ -15,3 +15,9 @@ returns-clause-routed c = (
 
 pub returns-clause-swapped : goal.returns-clause-swapped
 returns-clause-swapped c = λ all. cc (routed_alone all.3 refl all.2 all.4)
+
+pub returns-clause-doubled : goal.returns-clause-doubled
+returns-clause-doubled c = λ all. cc (routed_alone all.3 refl all.2 all.4)
+
+pub returns-clause-lost : goal.returns-clause-lost
+returns-clause-lost c = λ all. cc (routed_alone all.3 refl all.2 all.4)

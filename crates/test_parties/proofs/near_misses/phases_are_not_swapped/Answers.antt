@@ -2,7 +2,8 @@ use Rattle.std.proofs.Common.{[], ◌∷◌, ◌++◌, None, refl}
 use Rattle.flume_party.specs.Interleavings.{End, Left, Right}
 use Rattle.flume_laws.specs.Together.{AndParty, NoParty}
 use Rattle.test_parties.specs.NearMisses.{sends, both_got, two_exchanged}
-use Rattle.test_parties.proofs.NearMissLemmas.{two_are_whole, one_sends, both_receives, second_first}
+use Rattle.test_parties.proofs.NearMissLemmas.{two_are_whole, one_sends, both_receives}
+use Rattle.test_parties.proofs.NearMissLemmas.{second_first}
 use Rattle.test_parties.proofs.near_misses.phases_are_not_swapped.Goals as goal
 
 pub returns : goal.returns

@@ -8,4 +8,8 @@ returns g c =
     let one = and_call (no_call _) c.recv-first.ensures.called refl refl in
     let both = and_call one c.recv-second.ensures.called refl refl in
     rw c.confirm.ensures.party
-    (record { got = both; offered = confirmed both c.confirm.ensures.part })
+    (record {
+      got = both;
+      made = record { between = _; one = c.recv-first.ensures.made; other = c.recv-second.ensures.made };
+      offered = confirmed both c.confirm.ensures.part;
+    })

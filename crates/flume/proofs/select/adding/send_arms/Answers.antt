@@ -1,7 +1,6 @@
 -- Each pair so far has become an arm.
-use Rattle.std.proofs.Common.{◌≡◌, ℕ, length, ap, subst, rules}
+use Rattle.std.proofs.Common.{◌≡◌, length, rules}
 use Rattle.std.specs.Vec.Iter.{into_iter_items}
-use Rattle.std.proofs.Common.{◌++◌, map}
 use Rattle.flume.specs.declared.select.send.SendState.TheVariants.{Unstarted}
 use Rattle.flume.proofs.ArmListLemmas.{one_arm_more, no_pair_left}
 use Rattle.flume.proofs.select.adding.send_arms.Goals as goal

@@ -1,5 +1,4 @@
 -- What the party did.
-use Rattle.flume.specs.TracedPolls.{CanReceive}
 use Rattle.flume.proofs.polled.traced_receive.PartyRecvFutTracedFuture.poll.Goals as goal
 
 pub returns-in-None-clause-again : goal.returns-in-None-clause-again

@@ -8,7 +8,7 @@ returns-in-Some-clause-completes g c = rw (← c.self.view_is) (record {
   result = c.in-Some.result;
   completed = c.in-Some.ensures.completes;
   mapped = c.mapper.ensures;
-  called = sent_result _ _ _ c.self.inside.arm.state _ (sym c.in-Some.is ∙ c.into_result.ensures.result) c.self.invariant;
+  gave = sent_result _ _ _ c.self.inside.arm.state _ (sym c.in-Some.is ∙ c.into_result.ensures.result) c.self.invariant;
 })
 
 pub returns-in-Some-clause-maps : goal.returns-in-Some-clause-maps
