@@ -149,7 +149,7 @@ second_first all =
     cc
 
 -- one asked 1 and 2, another 3, and the server got 1, 3 and 2
-pub three_asked : AreExchanged ((1 ∷ 2 ∷ []) ∷ (3 ∷ []) ∷ []) ((1 ∷ 3 ∷ 2 ∷ []) ∷ [])
+pub three_asked : AreExchanged {X = ℕ} ((1 ∷ 2 ∷ []) ∷ (3 ∷ []) ∷ []) ((1 ∷ 3 ∷ 2 ∷ []) ∷ [])
 three_asked = (
   1 ∷ 3 ∷ 2 ∷ [],
   (3 ∷ [], ([], refl, Left End), Left (Right (Left End))),
@@ -161,7 +161,7 @@ pub blocked_is_whole : IsWhole (Some 0) (comes_back 1) (Some 0)
 blocked_is_whole = record {
   history = comes_back 1;
   all = refl;
-  run = search rules;
+  run = (((refl, [], [], refl), search rules), search rules);
   counted = λ n is. (cc is, refl);
   uncounted = λ none. absurd cc;
 }

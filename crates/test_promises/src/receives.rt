@@ -1,6 +1,6 @@
 //! Receives from channels with a trace.
 ghost use Rattle.std.specs.Prelude.{◌≢◌, [], ◌++◌, Err, option_to_list};
-ghost use Rattle.flume_model.specs.declared.step.Step.TheVariants.{TryRecv, Drain};
+ghost use Rattle.flume_model.specs.declared.step.Step.TheVariants as step;
 ghost use Rattle.flume_calls.specs.ReceiveTurns.{after_try_recv};
 ghost use Rattle.flume_actions.specs.Calls.{HasCalled, HasReceived, HasStepped};
 ghost use Rattle.flume_actions.specs.Calls.{got_by, drained_by};
@@ -23,7 +23,8 @@ pub fn try_receive<T: Drop, J: ChannelName, R: Waits>(
     me: &mut ChannelParty<T, J>,
 ) -> Result<T, TryRecvError>
     ensures got { HasCalled me.old me.new [] (got_by result) }
-    ensures made { HasStepped TryRecv after_try_recv me.old (try_receive_as_turn result) me.new }
+    ensures made { HasStepped step.TryRecv after_try_recv me.old (try_receive_as_turn result)
+        me.new }
     ensures never_no_memory { result ≢ Err TryRecvError.NoMemory }
 {
     rx.try_recv(me)
@@ -41,9 +42,9 @@ pub fn receive<T: Drop, J: ChannelName, R: Waits>(
     rx.recv(me)
 }
 
-/// Takes the next two messages, waits for each, and confirms. The party made two receives with these
-/// results. What they got was offered in this very channel, in this order, and none of it went back
-/// to its sender, whatever others did there.
+/// Takes the next two messages, waits for each, and confirms. The party made two receives with
+/// these results. What they got was offered in this very channel, in this order, and none of it
+/// went back to its sender, whatever others did there.
 pub fn receive_two<T: Drop, J: ChannelName, R: Waits>(
     rx: &TracedReceiver<T, R, J>,
     me: &mut ChannelParty<T, J>,
@@ -61,8 +62,8 @@ pub fn receive_two<T: Drop, J: ChannelName, R: Waits>(
 }
 
 /// Takes the next message, and waits up to the deadline. The party made one receive with this
-/// result, which got that message if it is `Ok`, and nothing otherwise. It says that it was late only
-/// if it withdrew. No clause says what a clock showed.
+/// result, which got that message if it is `Ok`, and nothing otherwise. It says that it was late
+/// only if it withdrew. No clause says what a clock showed.
 pub fn receive_in_time<T: Drop, J: ChannelName, R: Waits, A: Allocator + Copy>(
     rx: &TracedReceiver<T, R, J, A>,
     me: &mut ChannelParty<T, J, A>,
@@ -81,7 +82,7 @@ pub fn receive_all<'a, T: Drop, J: ChannelName, R: Waits>(
     me: &mut ChannelParty<T, J>,
 ) -> Result<Drain<'a, T>, NoMemory>
     ensures got { HasCalled me.old me.new [] (drained_by result) }
-    ensures made { HasStepped Drain after_drain me.old result me.new }
+    ensures made { HasStepped step.Drain after_drain me.old result me.new }
 {
     rx.drain(me)
 }
