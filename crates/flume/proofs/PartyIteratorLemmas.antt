@@ -9,7 +9,8 @@ use Rattle.flume.specs.Iterators.{IterValue, DeadlineIterValue, IsNextInTime}
 use Rattle.flume.specs.PartySteps.{ReceivesOf}
 use Rattle.flume.specs.PartyIterators.{ReceivesItem, TriesItem, ReceivesUntil, TooLate, Received, ReceivesItemUntil}
 use Rattle.flume.specs.PartyIterators.{IsTracedNext, IsTracedTryNext, IsTracedNextInTime}
-use Rattle.flume.proofs.TracedLemmas.{P, adds, has_received, has_stepped}
+use Rattle.flume.specs.TracedSends.{has_added}
+use Rattle.flume.proofs.TracedLemmas.{P, has_received, has_stepped}
 use Rattle.flume.proofs.TracedCallLemmas.{received_called, untimed_received_called, try_received_called}
 
 module _ {T : Type 0} where
@@ -26,7 +27,7 @@ module _ {T A : Type 0} where
   -- a `next` that waits
   pub traced_next : (old new : IterValue (P T A)) (item : Option T) → new.channel ≡ old.channel
       → old.calls_left ≡ new.calls_left + 1 → (new.fault ≡ true → item ≡ None)
-      → ReceivesItem adds old.party item new.fault new.party → IsTracedNext old item new
+      → ReceivesItem has_added old.party item new.fault new.party → IsTracedNext old item new
   traced_next old new item channel calls_left fault got =
       let made = has_received got.made in
       record {
@@ -37,7 +38,7 @@ module _ {T A : Type 0} where
 
   -- a `next` that doesn't wait
   pub traced_try_next : (old new : IterValue (P T A)) (item : Option T) → new.channel ≡ old.channel
-      → old.calls_left ≡ new.calls_left + 1 → new.fault ≡ false → TriesItem adds old.party item new.party
+      → old.calls_left ≡ new.calls_left + 1 → new.fault ≡ false → TriesItem has_added old.party item new.party
       → IsTracedTryNext old item new
   traced_try_next old new item channel calls_left no_fault got =
       let made = has_stepped got.made in
@@ -48,7 +49,7 @@ module _ {T A : Type 0} where
       }
 
   party_receives : {old new : P T A} (answer : Result T RecvTimeoutError)
-      → ReceivesUntil (ReceivesOf adds) old new answer → ReceivesUntil HasReceived old new answer
+      → ReceivesUntil (ReceivesOf has_added) old new answer → ReceivesUntil HasReceived old new answer
   party_receives answer (TooLate late same) = TooLate late same
   party_receives answer (Received made) = Received (has_received made)
 
@@ -61,7 +62,7 @@ module _ {T A : Type 0} where
 
   -- a `next` up to a deadline
   pub traced_next_until : (old new : DeadlineIterValue (P T A)) (item : Option T) → IsNextInTime A old item new
-      → ReceivesItemUntil (ReceivesOf adds) old item new → IsTracedNextInTime old item new
+      → ReceivesItemUntil (ReceivesOf has_added) old item new → IsTracedNextInTime old item new
   traced_next_until old new item next got =
       let made = party_receives got.answer got.made in
       record {

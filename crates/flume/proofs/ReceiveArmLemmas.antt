@@ -27,7 +27,8 @@ use Rattle.flume.specs.ArmParties.{ReceiveTurnOf, WithdrawsReceiveOf}
 use Rattle.flume.specs.TracedArms.{CanReceiveArm, HasNoMessage, HasParkedArm}
 use Rattle.flume.specs.declared.select.receive.ReceiveState.{ReceiveState}
 use Rattle.flume.specs.declared.select.receive.ReceiveState.TheVariants as receiving
-use Rattle.flume.proofs.TracedLemmas.{adds, has_stepped, then_made}
+use Rattle.flume.specs.TracedSends.{has_added}
+use Rattle.flume.proofs.TracedLemmas.{has_stepped, then_made}
 use Rattle.flume.proofs.TracedReceivePollLemmas.{one_more, received_calls, got_answer}
 use Rattle.flume.proofs.UnfilledArmLemmas.{never_handed}
 
@@ -153,7 +154,7 @@ module _ {T A : Type 0} where
 
     -- a turn of a receive arm
     pub receive_turned : (old new : P T A) (parks : Bool) (state : ReceiveState T) (answer : ArmNext) (after : ReceiveState T)
-        → CanReceiveArm start state old → ReceiveTurnOf adds parks state old answer after new → CanReceiveArm start after new
+        → CanReceiveArm start state old → ReceiveTurnOf has_added parks state old answer after new → CanReceiveArm start after new
     receive_turned old new true receiving.Unstarted answer after can (inl makes) =
         let step = has_stepped makes.1 in
         subst (λ state. CanReceiveArm start state new) (sym (led makes.0 answer after makes.3))
@@ -172,7 +173,7 @@ module _ {T A : Type 0} where
 
     -- a withdrawal that brought no message
     pub receive_withdrew : (old new : P T A) (state : ReceiveState T) (after : ReceiveState T) → CanReceiveArm start state old
-        → WithdrawsReceiveOf adds state old None after new → CanReceiveArm start after new
+        → WithdrawsReceiveOf has_added state old None after new → CanReceiveArm start after new
     receive_withdrew old new (receiving.Parked ticket) after can leaves =
         let step = has_stepped leaves.3 in
         subst (λ state. CanReceiveArm start state new) (sym leaves.2)
@@ -184,7 +185,7 @@ module _ {T A : Type 0} where
 
     -- it got nothing, if it had no message before
     pub receive_left : (old new : P T A) (state : ReceiveState T) (after : ReceiveState T) → CanReceiveArm start state old
-        → WithdrawsReceiveOf adds state old None after new → HasNoMessage state → HasMadeCalls start new [] []
+        → WithdrawsReceiveOf has_added state old None after new → HasNoMessage state → HasMadeCalls start new [] []
     receive_left old new (receiving.Parked ticket) after can leaves none =
         let step = has_stepped leaves.3 in
         subst (HasMadeCalls start new []) (got_none leaves.0 leaves.1)
@@ -197,7 +198,7 @@ module _ {T A : Type 0} where
 
     -- no withdrawal brings one
     pub none_handed : (old new : P T A) (state : ReceiveState T) (message : T) (after : ReceiveState T) (capacity : Option ℕ)
-        → CanReceiveArm start state old → WithdrawsReceiveOf adds state old (Some message) after new → IsPart capacity new.actions → ⊥
+        → CanReceiveArm start state old → WithdrawsReceiveOf has_added state old (Some message) after new → IsPart capacity new.actions → ⊥
     none_handed old new (receiving.Parked ticket) message after capacity can leaves part =
         let step = has_stepped leaves.3 in
         let answered = subst (λ next. after_withdraw step.reply next) (sym (got_some message leaves.0 leaves.1)) step.answered in

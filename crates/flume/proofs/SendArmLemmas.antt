@@ -26,7 +26,8 @@ use Rattle.flume.specs.TracedPolls.{CanSend}
 use Rattle.flume.specs.TracedArms.{CanSendArm, MaySend}
 use Rattle.flume.specs.declared.select.send.SendState.{SendState}
 use Rattle.flume.specs.declared.select.send.SendState.TheVariants as sending
-use Rattle.flume.proofs.TracedLemmas.{adds, has_stepped, then_made}
+use Rattle.flume.specs.TracedSends.{has_added}
+use Rattle.flume.proofs.TracedLemmas.{has_stepped, then_made}
 use Rattle.flume.proofs.TracedSendPollLemmas.{sent_calls, send_ended}
 
 -- a party, by its actions
@@ -110,7 +111,7 @@ module _ {T A : Type 0} where
 
     -- a turn of a send arm
     pub send_turned : (old new : P T A) (parks : Bool) (state : SendState T) (answer : ArmNext) (after : SendState T)
-        → CanSendArm start message state old → SendTurnOf adds parks state old answer after new → CanSendArm start message after new
+        → CanSendArm start message state old → SendTurnOf has_added parks state old answer after new → CanSendArm start message after new
     send_turned old new true (sending.Unstarted offered) answer after can (inl makes) =
         let step = has_stepped makes.1 in
         subst (λ state. CanSendArm start message state new) (sym (led makes.0 answer after makes.3))
@@ -129,7 +130,7 @@ module _ {T A : Type 0} where
 
     -- a withdrawal
     pub send_withdrew : (old new : P T A) (state : SendState T) (after : SendState T) → CanSendArm start message state old
-        → WithdrawsSendOf adds state old after new → CanSendArm start message after new
+        → WithdrawsSendOf has_added state old after new → CanSendArm start message after new
     send_withdrew old new (sending.Parked ticket) after can leaves =
         let step = has_stepped leaves.2 in
         subst (λ state. CanSendArm start message state new) (sym leaves.1)
@@ -140,7 +141,7 @@ module _ {T A : Type 0} where
 
     -- it sent the message or nothing
     pub send_left : (old new : P T A) (state : SendState T) (after : SendState T) → CanSendArm start message state old
-        → WithdrawsSendOf adds state old after new → MaySend start message new
+        → WithdrawsSendOf has_added state old after new → MaySend start message new
     send_left old new (sending.Parked ticket) after can leaves =
         let step = has_stepped leaves.2 in (leaves.0, sent_calls (can _ leaves.0 new (polled.Left step.answered) step.made))
     send_left old new (sending.Unstarted offered) after can same =

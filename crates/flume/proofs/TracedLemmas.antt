@@ -19,6 +19,7 @@ use Rattle.flume_actions.specs.Actions.{Action}
 use Rattle.flume_actions.specs.SendCalls as sends
 use Rattle.flume_actions.specs.ReceiveCalls as receives
 use Rattle.flume_actions.specs.Calls.{HasSent, HasReceived, HasStepped}
+use Rattle.flume.specs.TracedSends.{has_added}
 use Rattle.flume.specs.PartySteps.{DidStep, Same, AgainSendOf, SendsOf}
 use Rattle.flume.specs.PartySteps.{AgainReceiveOf, ReceivesOf}
 
@@ -27,10 +28,6 @@ abbrev pub P : Type 0 → Type 0 → Type 0
 P T A = PartyState (Action T A)
 
 module _ {T A : Type 0} where
-  -- what the keeper of a trace says of a party
-  abbrev pub adds : P T A → List (Action T A) → P T A → Type 0
-  adds old steps new = new ≡ and_made old steps
-
   -- actions after others
   pub then_made : {between new : P T A} (old : P T A) (some more : List (Action T A))
       → new ≡ and_made between more → between ≡ and_made old some
@@ -41,7 +38,7 @@ module _ {T A : Type 0} where
 
   -- one step
   pub has_stepped : {N : Type 0} {step : Step T} {table : Reply T A → N → Type 0} {old new : P T A} {answer : N}
-      → DidStep adds step table old answer new → HasStepped step table old answer new
+      → DidStep has_added step table old answer new → HasStepped step table old answer new
   has_stepped {old = old} did = record {
     reply = did.answered.reply;
     answered = did.answered.answered;
@@ -55,13 +52,13 @@ module _ {T A : Type 0} where
     made : new ≡ and_made old actions
 
   blocked : {old new : P T A} {ticket : ℕ} {result : Result (Unit {0}) (SendTimeoutError T)}
-      → send.ParkedSend (AgainSendOf adds) (Same adds) old ticket new result → Blocked ticket old new result
+      → send.ParkedSend (AgainSendOf has_added) (Same has_added) old ticket new result → Blocked ticket old new result
   blocked (send.Asked asks) =
       let ends = has_stepped asks.turn in
       record { actions = _; send = sends.Ended ends.answered; made = ends.made }
   blocked {old = old} {new = new} {ticket = ticket} {result = result} (send.Expired {waited = waited} asks late ends) =
       let first = has_stepped asks.turn in
-      let last = has_stepped (subst (λ t. AgainSendOf adds waited t true new (send_next.Done result)) asks.answers ends).turn in
+      let last = has_stepped (subst (λ t. AgainSendOf has_added waited t true new (send_next.Done result)) asks.answers ends).turn in
       let parks = subst (λ t. after_poll_send ticket first.reply (send_next.Park t)) asks.answers first.answered in
       record {
         actions = _;
@@ -82,7 +79,7 @@ module _ {T A : Type 0} where
 
   -- what a send did
   pub has_sent : {old new : P T A} {message : T} {result : Result (Unit {0}) (SendTimeoutError T)}
-      → SendsOf adds old message new result → HasSent old message new result
+      → SendsOf has_added old message new result → HasSent old message new result
   has_sent (send.AtFirst tries) =
       let ends = has_stepped tries in
       record { actions = _; send = sends.Tried ends.answered; made = ends.made }
@@ -119,13 +116,13 @@ module _ {T A : Type 0} where
     made : new ≡ and_made old actions
 
   parked : {old new : P T A} {ticket : ℕ} {result : Result T RecvTimeoutError}
-      → receive.ParkedReceive (AgainReceiveOf adds) (Same adds) old ticket new result → Parked ticket old new result
+      → receive.ParkedReceive (AgainReceiveOf has_added) (Same has_added) old ticket new result → Parked ticket old new result
   parked (receive.Asked asks) =
       let ends = has_stepped asks.turn in
       record { actions = _; receive = receives.Ended ends.answered; made = ends.made }
   parked {old = old} {new = new} {ticket = ticket} (receive.Withdrawn {asked = asked} {answer = answer} asks ends is) =
       let first = has_stepped asks.turn in
-      let last = has_stepped (subst (λ t. AgainReceiveOf adds asked t true new (recv_next.Done answer)) asks.answers ends).turn in
+      let last = has_stepped (subst (λ t. AgainReceiveOf has_added asked t true new (recv_next.Done answer)) asks.answers ends).turn in
       let refused = subst (λ t. after_poll ticket first.reply (recv_next.Refused t)) asks.answers first.answered in
       subst (λ result. Parked ticket old new result) (sym is)
       (record {
@@ -136,7 +133,7 @@ module _ {T A : Type 0} where
       })
   parked {old = old} {new = new} {ticket = ticket} {result = result} (receive.Expired {waited = waited} asks late ends) =
       let first = has_stepped asks.turn in
-      let last = has_stepped (subst (λ t. AgainReceiveOf adds waited t true new (recv_next.Done result)) asks.answers ends).turn in
+      let last = has_stepped (subst (λ t. AgainReceiveOf has_added waited t true new (recv_next.Done result)) asks.answers ends).turn in
       let parks = subst (λ t. after_poll ticket first.reply (recv_next.Park t)) asks.answers first.answered in
       record {
         actions = _;
@@ -157,7 +154,7 @@ module _ {T A : Type 0} where
 
   -- what a receive did
   pub has_received : {old new : P T A} {result : Result T RecvTimeoutError}
-      → ReceivesOf adds old new result → HasReceived old new result
+      → ReceivesOf has_added old new result → HasReceived old new result
   has_received (receive.AtFirst tries) =
       let ends = has_stepped tries in
       record { actions = _; receive = receives.Tried ends.answered; made = ends.made }

@@ -24,7 +24,8 @@ use Rattle.flume.specs.ManyReceiveGates.{ManyState, many_state, SameState, First
 use Rattle.flume.specs.ManyReceiveActions.{HasGot, HasReceivedAs, HasReceivedAndMore, HasReceivedMany}
 use Rattle.flume.specs.ManyReceiveActions as many
 use Rattle.flume.proofs.ManyReceiveLemmas.{first_none, more_parks}
-use Rattle.flume.proofs.TracedLemmas.{adds, has_received}
+use Rattle.flume.specs.TracedSends.{has_added}
+use Rattle.flume.proofs.TracedLemmas.{has_received}
 use Rattle.flume.proofs.TracedCallLemmas.{received_called}
 
 module _ {T : Type 0} where
@@ -77,8 +78,8 @@ module _ {T A : Type 0} where
 
   -- what a turn and those behind it did
   more_received : {makes : List (Action T A) → RecvNext T → Type 0} {old new : ManyState (P T A) T A} {next : RecvNext ℕ}
-      → TurnAndMoreOf adds makes old new next
-      → HasReceivedAndMore (λ old first new. Did adds makes old first new) old.most old.party old.list.items new.party new.list.items next
+      → TurnAndMoreOf has_added makes old new next
+      → HasReceivedAndMore (λ old first new. Did has_added makes old first new) old.most old.party old.list.items new.party new.list.items next
   more_received {old = old} more =
       let all = more.turn.answered in
       record {
@@ -111,7 +112,7 @@ module _ {T A : Type 0} where
       }
 
   -- what the first turn did
-  first_received : {old new : ManyState (P T A) T A} {next : RecvNext ℕ} → 0 < old.most → FirstManyOf adds old new next
+  first_received : {old new : ManyState (P T A) T A} {next : RecvNext ℕ} → 0 < old.most → FirstManyOf has_added old new next
       → HasReceivedMany (HasStepped TryRecv after_try_recv) old.most old.party old.list new.party new.list next
   first_received {old} {new} {next} some first = go first.turn.steps first.turn.made first.turn.answered
     where
@@ -143,12 +144,12 @@ module _ {T A : Type 0} where
 
   -- the parked call, as a receive of the message that ended it
   abbrev ParkedEnds : ℕ → P T A → RecvNext T → P T A → Type 0
-  ParkedEnds ticket old (Done r) new = gate.ParkedReceive (AgainReceiveOf adds) (Same adds) old ticket new r
+  ParkedEnds ticket old (Done r) new = gate.ParkedReceive (AgainReceiveOf has_added) (Same has_added) old ticket new r
   ParkedEnds ticket old _ new = ⊥
 
   -- what the parked call did
   parked_received : {old new : ManyState (P T A) T A} {ticket : ℕ} {result : Result ℕ RecvTimeoutError}
-      → gate.ParkedReceive (AgainManyOf adds) SameState old ticket new result
+      → gate.ParkedReceive (AgainManyOf has_added) SameState old ticket new result
       → HasReceivedAndMore (ParkedEnds ticket) old.most old.party old.list.items new.party new.list.items (Done result)
   parked_received {ticket = ticket} (gate.Asked a) = and_ended refl refl
       (λ r n between is did. gate.Asked (record { answers = answers_alone ticket n false r is a.answers; turn = did }))
@@ -168,7 +169,7 @@ module _ {T A : Type 0} where
 
   -- what a whole call did
   whole_received : {most : ℕ} {old new : P T A} {before after : Vec T A} {result : Result ℕ RecvTimeoutError} → 0 < most
-      → ReceivesManyOf adds most old before new after result → HasReceivedMany HasReceivedAs most old before new after (Done result)
+      → ReceivesManyOf has_added most old before new after result → HasReceivedMany HasReceivedAs most old before new after (Done result)
   whole_received {most} {old} {new} {before} {after} {result} some (end, gate.AtFirst f) = go (first_received some f)
     where
       go : HasReceivedMany (HasStepped TryRecv after_try_recv) most old before new after (Done result)
@@ -194,7 +195,7 @@ module _ {T A : Type 0} where
   -- what a receive of many at once did
   pub tried_many : {old new : P T A} {before after : Vec T A} {next : RecvNext ℕ} (most : ℕ)
       → (most ≡ 0 → (new ≡ old) × (after ≡ before)) → (most ≡ 0 → next ≡ Done (Ok 0))
-      → (0 < most → FirstManyOf adds (many_state old most before) (many_state new most after) next)
+      → (0 < most → FirstManyOf has_added (many_state old most before) (many_state new most after) next)
       → HasReceivedMany (HasStepped TryRecv after_try_recv) most old before new after next
   tried_many zero nothing none some = many.NoneAsked refl (nothing refl).0 (nothing refl).1 (none refl)
   tried_many (suc n) nothing none some = first_received (omega arith) (some (omega arith))
@@ -202,7 +203,7 @@ module _ {T A : Type 0} where
   -- what a receive of many that may wait did
   pub received_many : {old new : P T A} {before after : Vec T A} {result : Result ℕ RecvTimeoutError} (most : ℕ)
       → (most ≡ 0 → (new ≡ old) × (after ≡ before)) → (most ≡ 0 → result ≡ Ok 0)
-      → (0 < most → ReceivesManyOf adds most old before new after result)
+      → (0 < most → ReceivesManyOf has_added most old before new after result)
       → HasReceivedMany HasReceivedAs most old before new after (Done result)
   received_many zero nothing none some = many.NoneAsked refl (nothing refl).0 (nothing refl).1 (ap (λ r. Done r) (none refl))
   received_many (suc n) nothing none some = whole_received (omega arith) (some (omega arith))

@@ -26,7 +26,8 @@ use Rattle.flume.specs.EndedCalls.{EndsReceive, ReceivedByTry, ReceivedByPolls, 
 use Rattle.flume.specs.ReceivePolls.{answer_of_item}
 use Rattle.flume.specs.TracedPolls.{CanReceive, got_if}
 use Rattle.flume_keeper.specs.Keeps.{Did}
-use Rattle.flume.proofs.TracedLemmas.{adds, has_stepped, then_made}
+use Rattle.flume.specs.TracedSends.{has_added}
+use Rattle.flume.proofs.TracedLemmas.{has_stepped, then_made}
 
 -- a party, by its actions
 abbrev P : Type 0 → Type 0 → Type 0
@@ -37,6 +38,7 @@ pub one_more : {T A : Type 0} {start old new : P T A} {actions : List (Action T 
     → IsCall actions [] got → new ≡ and_made old actions → HasMadeCalls start new [] got
 one_more before call made = and_call before (record { actions = _; call = call; made = made }) refl refl
 
+-- a result's message, if it has one
 got_ok : {T E : Type 0} (result : Result T E) → got_by result ≡ got_if (result_ok result)
 got_ok (Ok message) = refl
 got_ok (Err error) = refl
@@ -78,6 +80,7 @@ module _ {T A : Type 0} where
   AfterError start Disconnected call now = (call ≡ None) × HasEndedReceive start now (Err timed.Disconnected)
   AfterError start NoMemory call now = CanReceive start call now
 
+  -- after a poll with this answer, or that waits on
   abbrev pub AfterPoll : P T A → Option (Result T RecvError) → Option ℕ → P T A → Type 0
   AfterPoll start (Some (Ok message)) call now = HasEndedReceive start now (Ok message)
   AfterPoll start (Some (Err error)) call now = AfterError start error call now
@@ -165,13 +168,13 @@ module _ {T A : Type 0} where
   -- a receive that leaves
   pub leaves : {S : Type 0} {start old new : P T A} (call : Option ℕ) (turn : AgainReceive S) (result : Result T RecvTimeoutError)
       → Some turn ≡ option_map (λ call. record { call = call; last = true; signal = None }) call
-      → Did adds (IsOneStep (step_of_parked_receive turn.call turn.last) (after_parked_receive turn.call turn.last)) old (Done result) new
+      → Did has_added (IsOneStep (step_of_parked_receive turn.call turn.last) (after_parked_receive turn.call turn.last)) old (Done result) new
       → CanReceive start call old → HasEndedReceive start new result
   leaves None turn result is did can = absurd (let none : ⊥ = cc in none)
   leaves {S = S} {start = start} {old = old} {new = new} (Some ticket) turn result is did can =
       let same : turn ≡ record { call = ticket; last = true; signal = None } = cc in
       let made = has_stepped {step = Withdraw ticket} {table = after_withdraw} (subst (λ (turn : AgainReceive S).
-      Did adds (IsOneStep (step_of_parked_receive turn.call turn.last) (after_parked_receive turn.call turn.last)) old (Done result) new)
+      Did has_added (IsOneStep (step_of_parked_receive turn.call turn.last) (after_parked_receive turn.call turn.last)) old (Done result) new)
       same did) in
       can _ result new (polled.Left made.answered) made.made
 

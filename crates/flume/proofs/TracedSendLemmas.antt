@@ -24,14 +24,14 @@ use Rattle.flume_actions.proofs.CallerLemmas.{no_call, and_call}
 use Rattle.flume.specs.ManySendSteps as many
 use Rattle.flume.specs.ManySendSteps.{BatchOf, SendsManyOf, try_result_list, error_list}
 use Rattle.flume.specs.PartySteps.{FirstSendOf, SendsToFullOf}
-use Rattle.flume.specs.TracedSends.{HasSentFirst, HasSentMany, HasTriedMany}
+use Rattle.flume.specs.TracedSends.{HasSentFirst, HasSentMany, HasTriedMany, has_added}
 use Rattle.flume.proofs.FirstTurnLemmas.{after_first}
-use Rattle.flume.proofs.TracedLemmas.{adds, has_sent}
+use Rattle.flume.proofs.TracedLemmas.{has_sent}
 use Rattle.flume.proofs.TracedCallLemmas.{sent_called}
 
 module _ {T A : Type 0} where
   -- a try to send
-  tried : {old new : PartyState (Action T A)} {message : T} {next : SendNext T} → FirstSendOf adds old message new next
+  tried : {old new : PartyState (Action T A)} {message : T} {next : SendNext T} → FirstSendOf has_added old message new next
       → HasCalled old new (sent_by_try message next) []
   tried {old = old} {next = next} did = record {
     actions = _;
@@ -49,7 +49,7 @@ module _ {T A : Type 0} where
     all_are : all ≡ sent ++ first ∷ behind
     left_is : left ≡ first ∷ behind
     calls : HasMadeCalls start offers sent []
-    last : FirstSendOf adds offers first new (answer first)
+    last : FirstSendOf has_added offers first new (answer first)
 
   -- by the offer's reply
   refuses : {start old new : PartyState (Action T A)} {before all left behind : List T} {first : T} {answer : T → SendNext T}
@@ -107,13 +107,13 @@ module _ {T A : Type 0} where
   -- by what the keeper says of it
   batch_sent : {start old new : PartyState (Action T A)} {before messages all : List T}
       {answer : Result (Unit {0}) (TrySendError (List T))} → HasMadeCalls start old before [] → all ≡ before ++ messages
-      → BatchOf adds old messages new answer → Batched start all new answer
+      → BatchOf has_added old messages new answer → Batched start all new answer
   batch_sent {start = start} {new = new} {all = all} calls is did =
       subst (λ answer. Batched start all new answer) (sym did.answer_is) (batched calls is did.turn.answered did.turn.made)
 
   -- a call that is one batch
   pub tried_many : {old new : PartyState (Action T A)} {messages : List T} (answer : Result (Unit {0}) (TrySendError (List T)))
-      → BatchOf adds old messages new answer → HasTriedMany old messages new answer
+      → BatchOf has_added old messages new answer → HasTriedMany old messages new answer
   tried_many {old = old} {new = new} {messages = messages} answer did = go answer (batch_sent (no_call old) refl did)
     where
       go : (answer : Result (Unit {0}) (TrySendError (List T))) → Batched old messages new answer → HasTriedMany old messages new answer
@@ -125,11 +125,11 @@ module _ {T A : Type 0} where
   -- a batch's last offer, and the send that goes on from it, are one call
   offer_sends : {start full new : PartyState (Action T A)} {all behind : List T} {first : T}
       {result : Result (Unit {0}) (SendTimeoutError T)} (offer : Refused start all full (first ∷ behind) NeedSignal)
-      → SendsToFullOf adds full first new result → HasCalled offer.offers new (sent_by first result) []
+      → SendsToFullOf has_added full first new result → HasCalled offer.offers new (sent_by first result) []
   offer_sends {full = full} {first = first} {result = result} offer sends =
       let same : offer.first ≡ first = let is = offer.left_is in cc in
       sent_called first result (has_sent (after_first
-      (subst (λ m. FirstSendOf adds offer.offers m full (NeedSignal m)) same offer.last) sends))
+      (subst (λ m. FirstSendOf has_added offer.offers m full (NeedSignal m)) same offer.last) sends))
 
   -- the first came back
   back_many : {start new : PartyState (Action T A)} {all behind : List T} (error : SendTimeoutError T)
@@ -142,7 +142,7 @@ module _ {T A : Type 0} where
   -- the last ones of the messages, after the others
   then_many : {deadline : Deadline} {start old new : PartyState (Action T A)} {messages all : List T}
       {result : Result (Unit {0}) (SendTimeoutError (List T))} {before : List T} → HasMadeCalls start old before []
-      → all ≡ before ++ messages → SendsManyOf adds deadline old messages new result → HasSentMany start all new result
+      → all ≡ before ++ messages → SendsManyOf has_added deadline old messages new result → HasSentMany start all new result
   then_many {start = start} {old = old} {before = before} calls is many.NoneLeft =
       subst (λ list. HasMadeCalls start old list []) (sym (is ∙ append-nil before)) calls
   then_many calls is (many.AllTakenIn made) = batch_sent calls is made.1
@@ -162,6 +162,6 @@ module _ {T A : Type 0} where
 
   -- a call that may wait
   pub sent_many : {deadline : Deadline} {old new : PartyState (Action T A)} {messages : List T}
-      {result : Result (Unit {0}) (SendTimeoutError (List T))} → SendsManyOf adds deadline old messages new result
+      {result : Result (Unit {0}) (SendTimeoutError (List T))} → SendsManyOf has_added deadline old messages new result
       → HasSentMany old messages new result
   sent_many {old = old} sends = then_many (no_call old) refl sends

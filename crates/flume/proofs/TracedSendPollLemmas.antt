@@ -19,7 +19,8 @@ use Rattle.flume_actions.proofs.CallerLemmas.{and_call}
 use Rattle.flume.specs.EndedCalls.{EndsSend, SentByTry, SentByPolls, HasEndedSend, GivesSend}
 use Rattle.flume.specs.TracedPolls.{CanSend}
 use Rattle.flume.specs.PartySteps.{DidStep}
-use Rattle.flume.proofs.TracedLemmas.{adds, has_stepped, then_made}
+use Rattle.flume.specs.TracedSends.{has_added}
+use Rattle.flume.proofs.TracedLemmas.{has_stepped, then_made}
 
 -- a party, by its actions
 abbrev P : Type 0 → Type 0 → Type 0
@@ -105,7 +106,7 @@ module _ {T A : Type 0} where
 
   -- a parked send that withdraws
   pub takes_back : {start old new : P T A} {message : T} {ticket : ℕ} (result : Result (Unit {0}) (SendTimeoutError T))
-      → CanSend start message (Parked ticket) old → DidStep adds (WithdrawSend ticket) after_withdraw_send old (Done result) new
+      → CanSend start message (Parked ticket) old → DidStep has_added (WithdrawSend ticket) after_withdraw_send old (Done result) new
       → HasMadeCalls start new (sent_by message result) []
   takes_back {new = new} result can did =
       let made = has_stepped did in sent_calls (can _ result new (polled.Left made.answered) made.made)

@@ -29,8 +29,8 @@ module _ {T A : Type 0} where
     ReceivedByTry : {reply : Reply T A} {result : Result T RecvTimeoutError}
         → after_try_recv reply (receive_next.Done result)
         → EndsReceive ((TryRecv, reply) ∷ []) result
-    ReceivedByPolls : {kind : Kind} {actions : List (Action T A)} {result : Result T RecvTimeoutError}
-        → IsPolledReceive kind actions result → EndsReceive actions result
+    ReceivedByPolls : {kind : Kind} {actions : List (Action T A)}
+        {result : Result T RecvTimeoutError} → IsPolledReceive kind actions result → EndsReceive actions result
 
   -- the same of a send of this message
   pub data EndsSend (message : T)
@@ -85,7 +85,7 @@ module _ {T A : Type 0} (start : PartyState (Action T A)) where
       : Type 0 where
     -- it made whole calls, which got the message of the answer, or nothing
     pub called : HasMadeCalls start now [] (got_by answer)
-    -- the last of them ended with the answer
+    -- the last of them ended with the answer, unless there was no memory
     pub ended : AnswersReceive now answer
 
   -- the party of a send of this message with this answer
@@ -93,5 +93,5 @@ module _ {T A : Type 0} (start : PartyState (Action T A)) where
       (answer : Result (Unit {0}) (SendError T)) : Type 0 where
     -- it made whole calls, which sent the message if the answer is `Ok`, or nothing
     pub called : HasMadeCalls start now (sent_by message answer) []
-    -- the last of them ended with the answer
+    -- the last of them ended with the answer, unless there was no memory
     pub ended : AnswersSend message now answer

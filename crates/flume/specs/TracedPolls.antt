@@ -25,8 +25,8 @@ module _ {T A : Type 0} (start : PartyState (Action T A)) where
   abbrev pub CanReceive : Option ℕ → PartyState (Action T A) → Type 0
   CanReceive None now = HasMadeCalls start now [] []
   CanReceive (Some ticket) now =
-      (later : List (Action T A)) (result : Result T RecvTimeoutError) (end : PartyState (Action T A))
-      → IsParkedPolls ticket later result → end ≡ and_made now later
+      (later : List (Action T A)) (result : Result T RecvTimeoutError)
+      (end : PartyState (Action T A)) → IsParkedPolls ticket later result → end ≡ and_made now later
       → HasEndedReceive start end result
 
   -- a receive after a poll with this answer, or that waits on

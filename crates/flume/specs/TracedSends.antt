@@ -9,8 +9,9 @@ use Rattle.flume_actions.specs.Actions.{Action}
 use Rattle.flume_actions.specs.Callers.{HasMadeCalls}
 
 module _ {T A : Type 0} where
-  -- the party made these actions
-  abbrev pub has_added : PartyState (Action T A) → List (Action T A) → PartyState (Action T A) → Type 0
+  -- what a trace's keeper says of a party: that it made these actions
+  abbrev pub has_added : PartyState (Action T A) → List (Action T A) → PartyState (Action T A)
+      → Type 0
   has_added old actions new = new ≡ and_made old actions
 
   -- The party made whole calls, one after the other, which sent the first of these messages, in

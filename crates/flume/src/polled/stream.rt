@@ -25,6 +25,18 @@ use std::alloc::{AllocError, Allocator, Global};
 use std::fmt;
 use std::mem::replace;
 
+// What a stream gives, and whether that is for want of memory.
+#[inline(always)]
+pub(crate) fn as_item<T>(answer: Result<T, RecvError>) -> (Option<T>, bool)
+    ensures answer { answer_of_item (Poll.Ready result.0) result.1 ≡ Some answer }
+    ensures ends { result.1 ≡ true → result.0 ≡ None }
+{
+    match answer {
+        Ok(message) => (Some(message), false),
+        Err(error) => (None, error == RecvError::NoMemory),
+    }
+}
+
 /// The messages of a receiver, as a stream. It ends as `Iter` does.
 #[derive(Drop)]
 pub struct RecvStream<'a, T, R: Waits, A: Allocator + Copy = Global> {
@@ -141,22 +153,6 @@ impl<'a, T: Drop, R: Waits, A: Allocator + Copy> RecvStream<'a, T, R, A> {
         Poll::Ready(answer)
     }
 
-    #[inline(always)]
-    fn item(&mut self, answer: Result<T, RecvError>) -> Option<T>
-        ensures answer { answer_of_item (Poll.Ready result) self.new.fault ≡ Some answer }
-        ensures ends { self.new.fault ≡ true → result ≡ None }
-        ensures next { self.new.next ≡ self.old.next }
-    {
-        self.fault = false;
-        match answer {
-            Ok(message) => Some(message),
-            Err(error) => {
-                self.fault = error == RecvError::NoMemory;
-                None
-            }
-        }
-    }
-
     /// Whether all senders, or all receivers, have been dropped.
     pub fn is_disconnected(&self) -> bool
         ensures made { HasReplied {T = T} {A = A} Step.IsDisconnected (Reply.Flag result) }
@@ -238,12 +234,14 @@ impl<T: Drop, R: Waits, A: Allocator + Copy> Stream for RecvStream<'_, T, R, A> 
         ensures receiver { self.new.next.receiver ≡ self.old.next.receiver }
         ensures fault { self.new.fault ≡ true → result ≡ Poll.Ready None }
     {
+        self.fault = false;
         match self.next.poll(cx) {
-            Poll::Ready(answer) => Poll::Ready(self.item(answer)),
-            Poll::Pending => {
-                self.fault = false;
-                Poll::Pending
+            Poll::Ready(answer) => {
+                let (item, fault) = as_item(answer);
+                self.fault = fault;
+                Poll::Ready(item)
             }
+            Poll::Pending => Poll::Pending,
         }
     }
 }

@@ -51,6 +51,8 @@ impl<T: Drop, R: Waits, A: Allocator + Copy, J: ChannelName> Receiver<T, R, A, T
     /// ```
     pub fn recv_async(&self, me: ChannelParty<T, J, A>) -> TracedRecvFut<'_, T, R, J, A>
         ensures start { result.start.value ≡ me }
+        ensures call { result.call ≡ record { kind = Kind.Plain; call = None } }
+        ensures party { result.me ≡ Some me }
         ensures can_poll { IsSomeAnd result.me (CanReceive result.start.value result.call.call) }
     {
         PartyRecvFut::new(self, me)
@@ -110,6 +112,8 @@ impl<'a, T: Drop, R: Waits, A: Allocator + Copy, J: ChannelName> PartyRecvFut<
 > {
     fn new(receiver: &'a Receiver<T, R, A, Traced<T, A, J>>, me: ChannelParty<T, J, A>) -> Self
         ensures start { result.start.value ≡ me }
+        ensures call { result.call ≡ record { kind = Kind.Plain; call = None } }
+        ensures party { result.me ≡ Some me }
         ensures can_poll { IsSomeAnd result.me (CanReceive result.start.value result.call.call) }
     {
         let start = Snapshot::of(&me);

@@ -51,6 +51,7 @@ impl<T: Drop, R: Waits, A: Allocator + Copy, J: ChannelName> Sender<T, R, A, Tra
     pub fn send_async(&self, me: ChannelParty<T, J, A>, message: T) -> TracedSendFut<'_, T, R, J, A>
         ensures start { result.start.value ≡ me }
         ensures message { result.message.value ≡ message }
+        ensures unsent { (result.send ≡ PolledSend.Unsent message) × (result.me ≡ Some me) }
         ensures can_poll { IsSomeAnd result.me
             (CanSend result.start.value result.message.value result.send) }
     {
@@ -98,6 +99,7 @@ impl<'a, T: Drop, R: Waits, A: Allocator + Copy, J: ChannelName> PartySendFut<
     ) -> Self
         ensures start { result.start.value ≡ me }
         ensures message { result.message.value ≡ message }
+        ensures unsent { (result.send ≡ PolledSend.Unsent message) × (result.me ≡ Some me) }
         ensures can_poll { IsSomeAnd result.me
             (CanSend result.start.value result.message.value result.send) }
     {

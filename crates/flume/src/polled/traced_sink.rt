@@ -1,5 +1,6 @@
 //! A sender with a trace, as a sink.
-ghost use Rattle.std.specs.Prelude.{◌≡◌, [], ⊤, List, None, IsSomeAnd, Result, Ok, OnOk};
+ghost use Rattle.std.specs.Prelude.{◌≡◌, [], ⊤, List, Some, None, IsSomeAnd, Result};
+ghost use Rattle.std.specs.Prelude.{Ok, Err, OnOk};
 ghost use Rattle.flume_core.specs.declared.error.SendError.{SendError};
 ghost use Rattle.futures.specs.Task.{Covers, Keeps};
 ghost use Rattle.futures.specs.Poll.{IfReady, OnPending};
@@ -57,6 +58,7 @@ impl<T: Drop, R: Waits, A: Allocator + Copy, J: ChannelName> Sender<T, R, A, Tra
     /// ```
     pub fn sink(&self, me: ChannelParty<T, J, A>) -> TracedSendSink<'_, T, R, J, A>
         ensures start { result.start.value ≡ me }
+        ensures party { result.me ≡ Some me }
         ensures can_poll { IsSomeAnd result.me (CanSink result.start.value result.sending) }
         ensures no_message { result.sending ≡ None }
     {
@@ -85,6 +87,11 @@ impl<'a, T: Drop, R: Waits, A: Allocator + Copy, J: ChannelName> PartySendSink<
             (CanSink self.old.start.value self.old.sending) }
         ensures called { HasMadeCalls self.old.start.value result.0
             (sent_of self.old.sending result.1) [] }
+        ensures no_message { self.old.sending ≡ None
+            → (self.old.me ≡ Some result.0) × (result.1 ≡ Ok tt) }
+        ensures unsent { (message : T) → IsSomeAnd self.old.sending (λ sending.
+            sending.send ≡ PolledSend.Unsent message)
+            → (self.old.me ≡ Some result.0) × (result.1 ≡ Err message) }
     {
         let Some(mut me) = self.me.take() else {
             unreachable!();
@@ -183,6 +190,9 @@ impl<T: Drop, R: Waits, A: Allocator + Copy, J: ChannelName> Sink<T>
         ensures history { OnOk result ((items : List T) → ⊤ → ⊤) }
         ensures keeps { IsSomeAnd self.new.sending (λ sending.
             sending.message.value ≡ message) }
+        ensures unsent { IsSomeAnd self.new.sending (λ sending.
+            sending.send ≡ PolledSend.Unsent message) }
+        ensures party { self.new.me ≡ self.old.me }
         ensures start { self.new.start ≡ self.old.start }
         ensures can_poll { IsSomeAnd self.new.me (CanSink self.new.start.value self.new.sending) }
         ensures ok { result ≡ Ok tt }

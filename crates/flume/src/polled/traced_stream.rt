@@ -9,11 +9,11 @@ ghost use Rattle.flume.specs.EndedCalls.{AnswersReceive};
 ghost use Rattle.flume.specs.ReceivePolls.{answer_of_item};
 ghost use Rattle.flume.specs.TracedPolls.{CanReceive, got_if};
 
+use crate::polled::stream::as_item;
 use crate::receiver::Receiver;
 use crate::shared::Waits;
 use crate::task::Task;
 use flume_calls::polled::PolledReceive;
-use flume_core::error::RecvError;
 use flume_keeper::{ChannelName, ChannelParty, Keeper, Traced};
 use flume_model::step::Kind;
 use futures::Stream;
@@ -55,6 +55,8 @@ impl<T: Drop, R: Waits, A: Allocator + Copy, J: ChannelName> Receiver<T, R, A, T
     /// ```
     pub fn stream(&self, me: ChannelParty<T, J, A>) -> TracedRecvStream<'_, T, R, J, A>
         ensures start { result.start.value ≡ me }
+        ensures call { result.call ≡ record { kind = Kind.Stream; call = None } }
+        ensures party { result.me ≡ me }
         ensures can_poll { CanReceive result.start.value result.call.call result.me }
         ensures no_fault { result.fault ≡ false }
     {
@@ -102,17 +104,6 @@ impl<'a, T: Drop, R: Waits, A: Allocator + Copy, J: ChannelName> PartyRecvStream
         } = self;
         let message = receiver.shared().leave(&mut me, &mut call);
         (me, message)
-    }
-}
-
-// What a stream gives, and whether that is for want of memory.
-fn as_item<T>(answer: Result<T, RecvError>) -> (Option<T>, bool)
-    ensures answer { answer_of_item (Poll.Ready result.0) result.1 ≡ Some answer }
-    ensures ends { result.1 ≡ true → result.0 ≡ None }
-{
-    match answer {
-        Ok(message) => (Some(message), false),
-        Err(error) => (None, error == RecvError::NoMemory),
     }
 }
 

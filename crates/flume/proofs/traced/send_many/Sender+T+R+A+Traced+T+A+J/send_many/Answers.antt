@@ -4,8 +4,7 @@ use Rattle.std.specs.Vec.{vec_items}
 use Rattle.flume.specs.CallSteps.{send_as_timed}
 use Rattle.flume_deadline.specs.declared.Deadline.TheVariants.{Never}
 use Rattle.flume.specs.ManySendSteps.{SendsManyOf, result_list}
-use Rattle.flume.specs.TracedSends.{HasSentMany}
-use Rattle.flume.proofs.TracedLemmas.{adds}
+use Rattle.flume.specs.TracedSends.{HasSentMany, has_added}
 use Rattle.flume.proofs.TracedSendLemmas.{sent_many}
 use Rattle.flume.proofs.traced.send_many.Sender+T+R+A+Traced+T+A+J.send_many.Goals as goal
 
@@ -16,7 +15,7 @@ returns-clause-called g c =
 
 pub returns-clause-made : goal.returns-clause-made
 returns-clause-made g c =
-    subst (λ ended. SendsManyOf adds Never c.args.me.now c.args.messages.items c.send_many_until.new.me (result_list vec_items ended))
+    subst (λ ended. SendsManyOf has_added Never c.args.me.now c.args.messages.items c.send_many_until.new.me (result_list vec_items ended))
     c.send_answer.ensures.outcome c.send_many_until.ensures.did
 
 pub returns-clause-disconnected : goal.returns-clause-disconnected
