@@ -23,7 +23,8 @@ pub fn try_arms<V, L: AtLeastOneArm<V, A> + Drop, A: Allocator + Copy>(
 
 /// Waits for the first of several arms up to the deadline. The parties of the arms come back. After
 /// a value, `selected` says what they did if one of the arms completed with that value; after an
-/// error, what they did if none completed. `made` says that each arm was tried, and which was last.
+/// error, what they did if none completed. By `made`, the arms were tried in turn, up to the first
+/// that needn't wait; and if each had to, they were started and waited for.
 pub fn select_in_time<V: Drop, L, A: Allocator + Copy>(
     selector: Selector<'_, V, L, A>,
     deadline: Instant,

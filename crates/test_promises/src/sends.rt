@@ -1,9 +1,8 @@
 //! Sends into channels with a trace.
-ghost use Rattle.std.specs.Prelude.{◌≡◌, true, false, []};
+ghost use Rattle.std.specs.Prelude.{◌≡◌, true, false, [], Err};
 ghost use Rattle.flume_model.specs.declared.step.Step.TheVariants.{TrySend};
 ghost use Rattle.flume_calls.specs.SendTurns.{after_try_send};
 ghost use Rattle.flume_actions.specs.Calls.{HasCalled, HasSent, HasStepped, sent_by};
-ghost use Rattle.flume_actions.specs.Callers.{HasMadeCalls};
 ghost use Rattle.flume.specs.CallSteps.{try_send_as_turn, send_as_timed};
 
 use flume::traced::{ChannelName, ChannelParty, TracedSender};
@@ -50,15 +49,14 @@ pub fn send_into<T: Drop, J: ChannelName, K: ChannelName, R: Waits>(
     }
 }
 
-/// Makes a future of a send, and cancels it before it is polled. The party, which comes back, made
-/// whole calls. They sent the message if the result is `Ok`, and nothing if it is `Err`.
+/// Makes a future of a send, and cancels it before it is polled. The party comes back as it was, with
+/// the message.
 pub fn make_and_cancel<T: Drop, J: ChannelName, R: Waits>(
     tx: &TracedSender<T, R, J>,
     me: ChannelParty<T, J>,
     message: T,
 ) -> (ChannelParty<T, J>, Result<(), T>)
-    ensures sent { HasMadeCalls me result.0 (sent_by message result.1) [] }
+    ensures unsent { result ≡ (me, Err message) }
 {
-    let (me, sent) = tx.send_async(me, message).cancel();
-    (me, sent)
+    tx.send_async(me, message).cancel()
 }
