@@ -1,11 +1,10 @@
 """Tells, while rt proves a crate and those below it, which one begins.
 
-    tools/proving.py NAME HINT CRATE [COMMAND..]
+    tools/proving.py NAME HINT CRATE COMMAND..
 
 Runs a COMMAND of rt in the folder of the CRATE. Lines on standard error begin with NAME. The first one, said before
 rt starts, tells how many crates are to be proved, and then the HINT; it is left out if all are proved. Where rt fails,
-standard error has what it printed. The status is rt's. Without a COMMAND, this prints how many are to be proved, or
-nothing if all are.
+standard error has what it printed. The status is rt's.
 """
 
 import os
@@ -73,10 +72,6 @@ def prove(name, hint, crate, command, given=None):
 
 def main():
     name, hint, crate, *command = sys.argv[1:]
-    if not command:
-        todo = unproved(crate, crates())
-        print(f"{counted(todo)} to prove" if todo else "")
-        return
     try:
         status, printed = prove(name, hint, crate, command)
     except KeyboardInterrupt:
