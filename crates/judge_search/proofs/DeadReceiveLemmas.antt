@@ -25,7 +25,7 @@ use Rattle.judge_search.specs.declared.choice.Choice.TheVariants.{TakeEvent, Mak
 use Rattle.judge_search.specs.declared.configuration.OpenCall.{OpenCall}
 use Rattle.judge_search.specs.Configurations.{State, event_at, thread_at, first_answer}
 use Rattle.judge_search.specs.Leads.{IsWrong, LeadsTo, LeadsNowhere}
-use Rattle.judge_search.specs.Dead.{onto, IsDeadEnd, IsDeadEndWithin, IsItemOf, CoverNext, IsSpent, EventLeads, EventWaits}
+use Rattle.judge_search.specs.Dead.{onto, IsDeadEnd, IsDeadEndWithin, IsItemOf, CoverNext, IsSpent, LeadsOnly, EventLeads, EventWaits}
 
 module _ {T A : Type 0} (equal : T → T → Bool) (events : List (Event T A)) where
   -- an explanation without its later items is one
@@ -34,37 +34,6 @@ module _ {T A : Type 0} (equal : T → T → Bool) (events : List (Event T A)) w
   before o past (item ∷ items) x =
       let later = before o (item ∷ past) items x in
       record { calls = later.calls.1; run = run_before equal o item past later.run }
-
-  -- with no choice left, nothing goes on
-  within : (place : ℕ) (c : State) → (drop place events ≡ [] → ⊥) → CoverNext equal events place c []
-      → (n : ℕ) → IsDeadEndWithin equal events n place c
-  within place c more left zero o past [] short agrees on = more (sym on.events_are)
-  within place c more left zero o past (item ∷ items) short agrees on = absurd (omega arith)
-  within place c more left (suc n) o past [] short agrees on = more (sym on.events_are)
-  within place c more left (suc n) o past (item ∷ items) short agrees on =
-      let fewer : length items ≤ n = omega arith in
-      let chosen = left o past item items agrees
-      (λ p q l less. within place c more left n p q l (let fewer = fewer in let less = less in omega arith)) on in
-      let none = chosen.1.1 in absurd (omega (arith, none))
-
-  pub dead : (place : ℕ) (c : State) → (drop place events ≡ [] → ⊥) → CoverNext equal events place c []
-      → IsDeadEnd equal events place c
-  dead place c more left o past items agrees on =
-      within place c more left (length items) o past items (omega arith) agrees on
-
-  -- without a choice that is spent
-  pub fewer : (place : ℕ) (c : State) (choices : List Choice) (last : Choice)
-      → CoverNext equal events place c (choices ++ last ∷ []) → IsSpent equal events place c last
-      → CoverNext equal events place c choices
-  fewer place c choices last left spent o past item items agrees short on =
-      let chosen = left o past item items agrees short on in
-      other chosen.0 chosen.2 (Contains-push_cases choices last chosen.0 chosen.1)
-    where
-      other : (choice : Choice) → IsItemOf equal events c past choice item → Contains choices choice ⊎ (last ≡ choice)
-          → (choice : Choice) × Contains choices choice × IsItemOf equal events c past choice item
-      other choice of (inl among) = (choice, among, of)
-      other choice of (inr is) = absurd (spent o past item items agrees short on
-          (subst (λ x. IsItemOf equal events c past x item) (sym is) of))
 
   -- the event at a place, and those behind it
   pub event_there : (all : List (Event T A)) (place : ℕ) (event : Event T A) (rest : List (Event T A)) → event ∷ rest ≡ drop place all
@@ -76,15 +45,15 @@ module _ {T A : Type 0} (equal : T → T → Bool) (events : List (Event T A)) w
       let k = event_there all place event rest is in
       (k.0, k.1 ∙ ap (λ n. drop n (first ∷ all)) (let more : suc (place + 1) ≡ suc place + 1 = omega arith in more))
 
-  -- the event is spent if it leads to a dead configuration, and if it can't come
-  pub spent_event : (place : ℕ) (c new : State) → EventLeads equal events place c new → IsDeadEnd equal events (place + 1) new
-      → IsSpent equal events place c TakeEvent
-  spent_event place c new leads gone o past (Makes u step reply) items agrees short on of = let is = of.1 in
+  -- the event leads to one configuration, and is spent if it can't come
+  pub event_only : (place : ℕ) (c new : State) → EventLeads equal events place c new
+      → LeadsOnly equal events place c TakeEvent (place + 1) new
+  event_only place c new leads o past (Makes u step reply) items agrees gone on of = let is = of.1 in
       absurd (let none : ⊥ = cc in none)
-  spent_event place c new leads gone o past (Happens event) items agrees short on of =
+  event_only place c new leads o past (Happens event) items agrees gone on of =
       let there = event_there events place event (events_in items) on.events_are in
       let fits = (before o (Happens event ∷ past) items on.explains).calls.0 in
-      gone o (Happens event ∷ past) items (leads o past event agrees there.0 fits)
+      gone o (Happens event ∷ past) items (omega arith) (leads o past event agrees there.0 fits)
       (record { events_are = there.1; late_steps = on.late_steps; explains = on.explains })
 
   pub spent_wait : (place : ℕ) (c : State) → EventWaits equal events place c → IsSpent equal events place c TakeEvent
@@ -93,16 +62,16 @@ module _ {T A : Type 0} (equal : T → T → Bool) (events : List (Event T A)) w
       let there = event_there events place event (events_in items) on.events_are in
       waits o past event agrees there.0 (before o (Happens event ∷ past) items on.explains).calls.0
 
-  -- a step is spent if it leads to a dead configuration, to the same one, or nowhere
+  -- a step leads to one configuration, and is spent if that is the same one, or if it leads nowhere
   abbrev pub Leads : ℕ → State → OpenCall → (other refused : Bool) → State → Type 0
   Leads place c call other refused new = (t : ℕ) → Contains c.calls call → thread_at events call.place ≡ Some t
       → LeadsTo equal events c (drop place events) t other refused new
 
-  pub spent_step : (place : ℕ) (c new : State) (call : OpenCall) (other refused : Bool) → Leads place c call other refused new
-      → IsDeadEnd equal events place new → IsSpent equal events place c (MakeStep call other refused)
-  spent_step place c new call other refused leads gone o past (Happens event) items agrees short on of = of.3
-  spent_step place c new call other refused leads gone o past (Makes u step reply) items agrees short on of =
-      gone o (Makes u step reply ∷ past) items
+  pub step_only : (place : ℕ) (c new : State) (call : OpenCall) (other refused : Bool) → Leads place c call other refused new
+      → LeadsOnly equal events place c (MakeStep call other refused) place new
+  step_only place c new call other refused leads o past (Happens event) items agrees gone on of = of.3
+  step_only place c new call other refused leads o past (Makes u step reply) items agrees gone on of =
+      gone o (Makes u step reply ∷ past) items (omega arith)
       (leads of.0 of.1 of.2 o past (Makes u step reply) agrees of.3 (before o (Makes u step reply ∷ past) items on.explains).run)
       (record { events_are = on.events_are; late_steps = on.late_steps.1; explains = on.explains })
 

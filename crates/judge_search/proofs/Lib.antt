@@ -53,8 +53,6 @@ pub mod WaitLemmas
 pub mod ThreadCallLemmas
 -- Where the next event leads: it begins a call, which is open from then on, or returns one, which is open no more.
 pub mod HappeningLemmas
--- How the frames of a search come and go, and how the choices of a frame, and events that only may come next, are spent.
-pub mod FrameLemmas
 -- The events of the items of a replay.
 pub mod TakeLemmas
 -- Beginnings of events.
@@ -109,15 +107,5 @@ pub mod AdmitMoveLemmas
 pub mod LeavingEndLemmas
 -- Each move answers as the step does that it is.
 pub mod EachMoveLemmas
--- No more tickets are issued than calls were begun: a call parks at most once.
-pub mod TicketsIssuedLemmas
--- After a run each step has a reply that isn't a refusal, if a ticket is left for one that parks.
-pub mod SomeReplyLemmas
--- A move that a configuration says may be refused may want memory in the state that it mirrors.
-pub mod RefusalsAllowedLemmas
--- A step that leads a reached configuration on leads to a reached one: a channel may answer it.
-pub mod ReachingLemmas
--- The next event leads a reached configuration on if it may come; and the events before a reached configuration are explained.
-pub mod ReachedEventLemmas
--- What a search knows of the configurations on the way: they are reached, as their frames come and go.
-pub mod SearchLemmas
+-- A level of configurations is dead if the next one is, once each of them was expanded.
+pub mod LevelLemmas

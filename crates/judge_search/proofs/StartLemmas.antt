@@ -14,7 +14,6 @@ use Rattle.judge_calls.proofs.LateCallLemmas.{explained_late}
 use Rattle.judge_search.specs.Configurations.{start_of}
 use Rattle.judge_search.specs.Agreement.{Agrees, IsOwn}
 use Rattle.judge_search.specs.Dead.{IsDeadEnd, onto}
-use Rattle.judge_search.specs.Reached.{IsReached}
 
 module _ {T A : Type 0} where
   -- a new channel stands for the empty log
@@ -65,16 +64,6 @@ module _ {T A : Type 0} (equal : T → T → Bool) (events : List (Event T A)) w
       blocked_send = All-nil _;
       receives_apart = All-nil _;
     };
-  }
-
-  -- so it is reached
-  pub start_reached : (capacity : Option ℕ) → IsReached equal events (opens capacity 1) 0 (start_of capacity)
-  start_reached capacity = record {
-    past = [];
-    events_are = refl;
-    explains = record { calls = tt; run = tt };
-    agrees = start_agrees capacity 1;
-    first_is = omega arith;
   }
 
   -- if it is dead, the events have no explanation

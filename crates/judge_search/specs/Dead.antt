@@ -60,6 +60,13 @@ module _ {T A : Type 0} (equal : T → T → Bool) (events : List (Event T A)) w
       → IsDeadEndWithin (length items) place c → Completes opening past place (item ∷ items)
       → IsItemOf c past choice item → ⊥
 
+  -- nothing of this choice may come next, unless fewer items complete an explanation from there
+  abbrev pub LeadsOnly : ℕ → State → Choice → ℕ → State → Type 0
+  LeadsOnly place c choice at new = (opening : Opening) (past : List (Item T A)) (item : Item T A)
+      (items : List (Item T A)) → Agrees equal events opening past (drop place events) c
+      → IsDeadEndWithin (length items) at new → Completes opening past place (item ∷ items)
+      → IsItemOf c past choice item → ⊥
+
   -- the next event leads to items that agree with the new configuration
   abbrev pub EventLeads : ℕ → State → State → Type 0
   EventLeads place c new = (opening : Opening) (past : List (Item T A)) (event : Event T A)

@@ -8,8 +8,8 @@ pub mod Agreement
 pub mod Progresses
 pub mod Moves
 pub mod Leads
+pub mod Levels
 pub mod Happens
 pub mod Refusals
 pub mod Dead
 pub mod Search
-pub mod Reached

@@ -5,13 +5,11 @@ ghost use Rattle.flume_model.specs.Log.{opens};
 ghost use Rattle.judge_calls.specs.Explanations.{events_in, IsExplained};
 ghost use Rattle.judge_calls.specs.Descriptions.{DescribeExplanation};
 ghost use Rattle.judge_calls.specs.declared.event.Item.{Item};
-ghost use Rattle.judge_search.specs.Reached.{AreExplained};
-ghost use Rattle.judge_search.specs.Search.{BreaksAfter, UnexplainedAfter};
+ghost use Rattle.judge_search.specs.Search.{AreExplained, BreaksAfter, UnexplainedAfter};
 
 use crate::choice::Choice;
-use crate::paths::find_choices;
+use crate::paths::{Found, find_choices};
 use crate::replay::{Failure, make_choices};
-use crate::search::Found;
 use judge_calls::event::{Event, Item};
 use judge_calls::explanation::{Explained, check_explanation};
 use std::alloc::Allocator;
@@ -58,7 +56,7 @@ pub fn explain<T: Copy + Eq + Drop, A: Allocator + Copy>(
     ensures unexplained { result ≡ Explanation.Unexplained
         → IsExplained T.eq (opens capacity 1) events.now → ⊥ }
     ensures gave_up { (count : ℕ) → result ≡ Explanation.GaveUp count
-        → AreExplained T.eq events.now (opens capacity 1) count }
+        → AreExplained T.eq (opens capacity 1) events.now count }
 {
     match find_choices(alloc, capacity, events, limit) {
         Found::Path(path) => explained_by(alloc, capacity, events, path.as_slice()),
@@ -84,7 +82,7 @@ pub fn check_calls<T: Copy + Eq + Drop, A: Allocator + Copy>(
     ensures unexplained { (count : ℕ) → result ≡ Checked.Unexplained count
         → UnexplainedAfter T.eq (opens capacity 1) events.now count }
     ensures gave_up { (count : ℕ) → result ≡ Checked.GaveUp count
-        → AreExplained T.eq events.now (opens capacity 1) count }
+        → AreExplained T.eq (opens capacity 1) events.now count }
 {
     match find_choices(alloc, capacity, events, limit) {
         Found::Path(_) => Checked::Explained,
@@ -108,7 +106,7 @@ fn explained_by<T: Copy + Eq + Drop, A: Allocator + Copy>(
     ensures explained { (items : Vec (Item T A) A) → result ≡ Explanation.Explained items
         → IsExplained T.eq (opens capacity 1) events.now }
     ensures gave_up { (count : ℕ) → result ≡ Explanation.GaveUp count
-        → AreExplained T.eq events.now (opens capacity 1) count }
+        → AreExplained T.eq (opens capacity 1) events.now count }
     ensures found { result ≡ Explanation.Unexplained → ⊥ }
 {
     let items = match make_choices(alloc, capacity, events, path) {

@@ -1,10 +1,7 @@
 //! Takes the next event.
 ghost use Rattle.std.specs.Prelude.{◌≡◌, ◌<◌, ℕ, false, IsTrue, length};
 ghost use Rattle.judge_search.specs.Configurations.{call_at};
-ghost use Rattle.flume_model.specs.Log.{Opening};
-ghost use Rattle.judge_calls.specs.Explanations.{IsExplained};
-ghost use Rattle.judge_search.specs.Dead.{EventLeads, EventWaits, IsDeadEnd};
-ghost use Rattle.judge_search.specs.Reached.{AreExplained, EventFits, IsReached, Reaches};
+ghost use Rattle.judge_search.specs.Dead.{EventLeads, EventWaits};
 ghost use Rattle.judge_search.specs.Happens.{may_end, with_call, without_call};
 ghost use Rattle.judge_search.specs.declared.configuration.OpenCall.{OpenCall};
 
@@ -31,7 +28,6 @@ impl<A: Allocator + Copy> Configuration<A> {
     /// Whether the event at a place may come now.
     pub fn may_take_event<T: Copy + Eq + Drop>(&self, events: &[Event<T, A>], place: usize) -> bool
         requires { place < length events.now }
-        ensures fits { IsTrue result → EventFits T.eq events.now place self.now }
         ensures waits { result ≡ false → EventWaits T.eq events.now place self.now }
     {
         match &events[place] {
@@ -89,18 +85,6 @@ impl<A: Allocator + Copy> Configuration<A> {
     ) -> Forced
         ensures within { (next : ℕ) (own : OpenCall) → result ≡ Forced.Stops next own
             → next < length events.now }
-        ensures stops { (next : ℕ) (own : OpenCall) → result ≡ Forced.Stops next own
-            → IsDeadEnd T.eq events.now next self.new → IsDeadEnd T.eq events.now place self.old }
-        ensures dead { (next : ℕ) → result ≡ Forced.Dead next
-            → IsDeadEnd T.eq events.now place self.old }
-        ensures all { result ≡ Forced.AtEnd → (opening : Opening)
-            → IsReached T.eq events.now opening place self.old
-            → IsExplained T.eq opening events.now }
-        ensures reaches { (next : ℕ) (own : OpenCall) → result ≡ Forced.Stops next own
-            → Reaches T.eq events.now place self.old next self.new }
-        ensures explained_before { (next : ℕ) → result ≡ Forced.Dead next → (opening : Opening)
-            → IsReached T.eq events.now opening place self.old
-            → AreExplained T.eq events.now opening next }
     {
         for next in place..events.len() {
             if let Some(own) = self.returning_call(events, next) {

@@ -1,6 +1,7 @@
 //! Looks for an explanation of what threads recorded of their calls on a channel.
 #![tactic(auto)]
 
+pub mod answers;
 mod call_records;
 mod choice;
 mod configuration;
@@ -10,6 +11,7 @@ pub mod explain;
 mod frame;
 mod guess;
 mod happens;
+mod levels;
 mod line;
 mod moves;
 mod order;
@@ -24,7 +26,6 @@ mod refused;
 mod refuted;
 mod replay;
 mod replies;
-mod search;
 mod sends;
 mod step_of;
 mod tries;

@@ -7,7 +7,6 @@ ghost use Rattle.judge_calls.specs.declared.event.Event.{Event};
 ghost use Rattle.judge_search.specs.Configurations.{State, thread_at, first_answer};
 ghost use Rattle.judge_search.specs.Configurations.{calls_with_progress};
 ghost use Rattle.judge_search.specs.Leads.{LeadsTo, LeadsNowhere, CallLeadsTo, CallLeadsNowhere};
-ghost use Rattle.judge_search.specs.Reached.{StepReaches, MoveReaches};
 
 use crate::configuration::{Configuration, OpenCall, Progress, calls_with_progress};
 use crate::place_reply::PlaceReply;
@@ -15,10 +14,11 @@ use crate::places::call_at;
 use crate::progress::{is_wrong, progress_of};
 use crate::replies::reply_for;
 use crate::step_of::{Move, move_of};
+use flume_core::error::NoMemory;
 use flume_model::step::Reply;
 use judge_calls::call::{Answer, Call};
 use judge_calls::event::Event;
-use judge_calls::stage::stage_after;
+use judge_calls::stage::{Stage, stage_after};
 use std::alloc::Allocator;
 
 /// The result of a move.
@@ -47,8 +47,6 @@ impl<A: Allocator + Copy> Configuration<A> {
             → thread_at events.now one.place ≡ Some t
             → first_answer t rest ≡ option_copied recorded.entry
             → LeadsTo T.eq events.now self.now rest t other refused new }
-        ensures reaches { (new : State) → result ≡ Outcome.Leads new → (place : ℕ)
-            → StepReaches T.eq events.now place self.now (option_copied recorded.entry) one new }
         ensures same { result ≡ Outcome.Same
             → (rest : List (Event T A)) (t : ℕ) → Contains self.now.calls one
             → thread_at events.now one.place ≡ Some t
@@ -84,9 +82,6 @@ impl<A: Allocator + Copy> Configuration<A> {
         ensures leads { (events : List (Event T A)) (new : State) → result ≡ Outcome.Leads new
             → CallLeadsTo T.eq events self.now (option_copied recorded.entry) one call.now mv true
             new }
-        ensures reaches { (events : List (Event T A)) (new : State) → result ≡ Outcome.Leads new
-            → (place : ℕ) → MoveReaches T.eq events place self.now (option_copied recorded.entry)
-            one call.now mv new }
         ensures same { (events : List (Event T A)) → result ≡ Outcome.Same
             → CallLeadsTo T.eq events self.now (option_copied recorded.entry) one call.now mv true
             self.now }
@@ -123,9 +118,6 @@ impl<A: Allocator + Copy> Configuration<A> {
         ensures leads { (new : State) → result ≡ Outcome.Leads new
             → CallLeadsTo T.eq events.now self.now (option_copied recorded.entry) one call.now mv
             false new }
-        ensures reaches { (new : State) → result ≡ Outcome.Leads new → (place : ℕ)
-            → MoveReaches T.eq events.now place self.now (option_copied recorded.entry) one call.now
-            mv new }
         ensures same { result ≡ Outcome.Same
             → CallLeadsTo T.eq events.now self.now (option_copied recorded.entry) one call.now mv
             false self.now }
@@ -153,6 +145,35 @@ impl<A: Allocator + Copy> Configuration<A> {
         match self.calls_with(alloc, one.place, progress) {
             Some(calls) => Outcome::Leads(changed.with_calls(calls)),
             None => Outcome::NoMemory,
+        }
+    }
+
+    /// The answer to which a move brings this open call that isn't refused, if to any.
+    pub fn answer_of<T: Copy + Eq + Drop>(
+        &self,
+        alloc: A,
+        events: &[Event<T, A>],
+        one: OpenCall,
+        other: bool,
+    ) -> Result<Option<Answer<T, A>>, NoMemory> {
+        let Some(call) = call_at(events, one.place) else {
+            return Ok(None);
+        };
+        let Some(mv) = move_of(call, one.progress, other) else {
+            return Ok(None);
+        };
+        let Some(mut changed) = self.try_clone(alloc) else {
+            return Err(NoMemory);
+        };
+        let Some(reply_by_place) = changed.make(mv, one.place) else {
+            return Err(NoMemory);
+        };
+        let Some(reply) = self.reply_to(alloc, reply_by_place, events, call) else {
+            return Err(NoMemory);
+        };
+        match stage_after(call, one.progress.stage(), reply) {
+            Stage::Answered(answer) => Ok(Some(answer)),
+            _ => Ok(None),
         }
     }
 

@@ -4,8 +4,7 @@ ghost use Rattle.std.specs.Option.{option_copied};
 ghost use Rattle.std.specs.List.{Contains};
 ghost use Rattle.judge_calls.specs.declared.event.Event.{Event};
 ghost use Rattle.judge_search.specs.Configurations.{State, first_answer, thread_at};
-ghost use Rattle.judge_search.specs.Dead.{IsDeadEnd, IsSpent};
-ghost use Rattle.judge_search.specs.Reached.{Reaches};
+ghost use Rattle.judge_search.specs.Dead.{IsSpent, LeadsOnly};
 ghost use Rattle.judge_search.specs.declared.choice.Choice.{Choice};
 
 use crate::choice::Choice;
@@ -37,9 +36,7 @@ impl<A: Allocator + Copy> Configuration<A> {
     ) -> ChoiceOutcome<A>
         requires { place < length events.now }
         ensures leads { (next : State) (index : ℕ) → result ≡ ChoiceOutcome.Leads next index
-            → IsDeadEnd T.eq events.now index next → IsSpent T.eq events.now place self.now choice }
-        ensures reaches { (next : State) (index : ℕ) → result ≡ ChoiceOutcome.Leads next index
-            → Reaches T.eq events.now place self.now index next }
+            → LeadsOnly T.eq events.now place self.now choice index next }
         ensures spent { result ≡ ChoiceOutcome.Spent
             → IsSpent T.eq events.now place self.now choice }
     {
@@ -61,10 +58,7 @@ impl<A: Allocator + Copy> Configuration<A> {
     ) -> ChoiceOutcome<A>
         requires { place < length events.now }
         ensures leads { (next : State) (index : ℕ) → result ≡ ChoiceOutcome.Leads next index
-            → IsDeadEnd T.eq events.now index next
-            → IsSpent T.eq events.now place self.now Choice.TakeEvent }
-        ensures reaches { (next : State) (index : ℕ) → result ≡ ChoiceOutcome.Leads next index
-            → Reaches T.eq events.now place self.now index next }
+            → LeadsOnly T.eq events.now place self.now Choice.TakeEvent index next }
         ensures spent { result ≡ ChoiceOutcome.Spent
             → IsSpent T.eq events.now place self.now Choice.TakeEvent }
     {
@@ -92,10 +86,8 @@ impl<A: Allocator + Copy> Configuration<A> {
     ) -> ChoiceOutcome<A>
         requires { place < length events.now }
         ensures leads { (next : State) (index : ℕ) → result ≡ ChoiceOutcome.Leads next index
-            → IsDeadEnd T.eq events.now index next
-            → IsSpent T.eq events.now place self.now (Choice.MakeStep call other refused) }
-        ensures reaches { (next : State) (index : ℕ) → result ≡ ChoiceOutcome.Leads next index
-            → Reaches T.eq events.now place self.now index next }
+            → LeadsOnly T.eq events.now place self.now (Choice.MakeStep call other refused) index
+            next }
         ensures spent { result ≡ ChoiceOutcome.Spent
             → IsSpent T.eq events.now place self.now (Choice.MakeStep call other refused) }
     {
@@ -119,7 +111,7 @@ fn has_call(calls: &[OpenCall], call: OpenCall) -> bool
     calls.contains(&call)
 }
 
-fn recorded<T: Copy + Eq + Drop, A: Allocator + Copy>(
+pub(crate) fn recorded<T: Copy + Eq + Drop, A: Allocator + Copy>(
     events: &[Event<T, A>],
     place: usize,
     call: OpenCall,

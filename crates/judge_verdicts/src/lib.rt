@@ -5,10 +5,8 @@ ghost use Rattle.flume_history.specs.HistoryText.{Judges};
 ghost use Rattle.judge_verdicts.specs.Kinds.{IsRecording};
 ghost use Rattle.judge_verdicts.specs.CallsText.{JudgesCalls};
 
-mod candidates;
 mod items;
 mod kind;
-mod numbers;
 mod possible;
 mod reasons;
 mod recording;

@@ -1,7 +1,7 @@
 -- If nothing comes of the start, nothing explains the events; what the search reaches is explained.
 use Rattle.std.proofs.Common.{◌≡◌, refl, sym, ◌∙◌, subst}
 use Rattle.flume_model.specs.Log.{opens}
-use Rattle.judge_search.specs.Reached.{AreExplained}
+use Rattle.judge_search.specs.Search.{AreExplained}
 use Rattle.judge_search.proofs.explain.check_calls.Goals as goal
 use Rattle.judge_search.proofs.explain.check_calls.Goals.{in-Path, in-Nothing, in-NoMemory, in-GaveUp}
 
@@ -41,6 +41,6 @@ returns-clause-gave_up g c = λ count is. elim c.match-find_choices.branch [
   | in-GaveUp w ↦
       let k = w.result-is in
       let same : count ≡ w.in-GaveUp.place = cc in
-      subst (AreExplained g.T.PartialEq.eq c.args.events.now (opens c.args.capacity 1)) (sym same)
+      subst (AreExplained g.T.PartialEq.eq (opens c.args.capacity 1) c.args.events.now) (sym same)
       (w.in-GaveUp.ensures.gave_up w.in-GaveUp.place refl)
 ]

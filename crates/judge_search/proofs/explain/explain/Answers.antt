@@ -1,7 +1,7 @@
 -- If nothing comes of the start, nothing explains the events; what the search reaches is explained.
 use Rattle.std.proofs.Common.{◌≡◌, refl, sym, subst}
 use Rattle.flume_model.specs.Log.{opens}
-use Rattle.judge_search.specs.Reached.{AreExplained}
+use Rattle.judge_search.specs.Search.{AreExplained}
 use Rattle.judge_search.proofs.explain.explain.Goals as goal
 
 pub returns-in-Nothing-clause-unexplained : goal.returns-in-Nothing-clause-unexplained
@@ -15,5 +15,5 @@ explained_by-requires g c =
 pub returns-in-GaveUp-clause-gave_up : goal.returns-in-GaveUp-clause-gave_up
 returns-in-GaveUp-clause-gave_up g c = λ count is.
     let same : count ≡ c.in-GaveUp.place = cc in
-    subst (AreExplained g.T.PartialEq.eq c.args.events.now (opens c.args.capacity 1)) (sym same)
+    subst (AreExplained g.T.PartialEq.eq (opens c.args.capacity 1) c.args.events.now) (sym same)
     (c.in-GaveUp.ensures.gave_up c.in-GaveUp.place refl)

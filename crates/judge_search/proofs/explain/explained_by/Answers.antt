@@ -3,7 +3,7 @@ use Rattle.std.proofs.Common.{◌≡◌, length, refl, sym, ap, ◌∙◌, subst
 use Rattle.flume_model.specs.Log.{opens}
 use Rattle.judge_calls.specs.Explanations.{events_in, IsExplained}
 use Rattle.judge_calls.specs.Descriptions.{DescribeExplanation}
-use Rattle.judge_search.specs.Reached.{AreExplained}
+use Rattle.judge_search.specs.Search.{AreExplained}
 use Rattle.judge_search.proofs.BeginningLemmas.{all_of}
 use Rattle.judge_search.proofs.explain.explained_by.Goals as goal
 
@@ -22,11 +22,11 @@ returns-in-Explains-clause-explained g c = λ items is.
 pub returns-in-Err-NoPath-clause-gave_up : goal.returns-in-Err-NoPath-clause-gave_up
 returns-in-Err-NoPath-clause-gave_up g c = λ count is.
     let same : count ≡ length c.args.events.now = cc in
-    subst (AreExplained g.T.PartialEq.eq c.args.events.now (opens c.args.capacity 1)) (sym same)
+    subst (AreExplained g.T.PartialEq.eq (opens c.args.capacity 1) c.args.events.now) (sym same)
     (all_of g.T.PartialEq.eq (opens c.args.capacity 1) c.args.events.now c.requires)
 
 pub returns-in-Breaks-clause-gave_up : goal.returns-in-Breaks-clause-gave_up
 returns-in-Breaks-clause-gave_up g c = λ count is.
     let same : count ≡ length c.args.events.now = cc in
-    subst (AreExplained g.T.PartialEq.eq c.args.events.now (opens c.args.capacity 1)) (sym same)
+    subst (AreExplained g.T.PartialEq.eq (opens c.args.capacity 1) c.args.events.now) (sym same)
     (all_of g.T.PartialEq.eq (opens c.args.capacity 1) c.args.events.now c.requires)

@@ -55,13 +55,3 @@ returns-else-refused-clause-nowhere g c = λ e rest t has there first.
     (sym c.call_at.ensures.call ∙ ap option_copied c.in-Some.is) c.in-Some-move_of.mv
     (sym c.move_of.ensures.moves ∙ c.in-Some-move_of.is) (option_copied c.args.recorded) first false c.if-refused.false
     (c.after_move.ensures.nowhere e)
-
-pub returns-then-refused-clause-reaches : goal.returns-then-refused-clause-reaches
-returns-then-refused-clause-reaches g c = λ new e place.
-    c.after_refusal.ensures.reaches c.args.events.now new e place c.args.other
-    (sym c.call_at.ensures.call ∙ ap option_copied c.in-Some.is) (sym c.move_of.ensures.moves ∙ c.in-Some-move_of.is)
-
-pub returns-else-refused-clause-reaches : goal.returns-else-refused-clause-reaches
-returns-else-refused-clause-reaches g c = λ new e place.
-    c.after_move.ensures.reaches new e place c.args.other
-    (sym c.call_at.ensures.call ∙ ap option_copied c.in-Some.is) (sym c.move_of.ensures.moves ∙ c.in-Some-move_of.is)

@@ -12,7 +12,6 @@ use Rattle.std.specs.Option.{option_copied}
 use Rattle.judge_search.specs.Outcomes.{outcome}
 use Rattle.judge_search.specs.Progresses.{progress_of}
 use Rattle.judge_search.proofs.MoveLeadLemmas.{leads, leads_same, leads_wrong, left_with}
-use Rattle.judge_search.proofs.ReachingLemmas.{move_reaches}
 use Rattle.judge_search.proofs.configuration.Configuration.after_move.Goals as goal
 
 pub returns-then-is_wrong-clause-nowhere : goal.returns-then-is_wrong-clause-nowhere
@@ -51,15 +50,3 @@ returns-in-Some-calls_with-clause-leads g c = λ new e.
     (c.in-Some-make.ensures.outcome ∙ ap (outcome c.args.mv c.args.one.place) c.in-Some.ensures.same) 0 c.in-Some-reply_to.reply
     c.in-Some-reply_to.ensures.corresponds c.stage.result c.stage_after-stage.result c.stage.ensures.stage c.stage_after-stage.ensures.stage
     (sym c.is_wrong.ensures.wrong ∙ c.if-is_wrong.false))
-
-pub returns-in-Some-calls_with-clause-reaches : goal.returns-in-Some-calls_with-clause-reaches
-returns-in-Some-calls_with-clause-reaches g c = λ new e place.
-    let reply_by_place : c.in-Some-make.reply_by_place ≡ (outcome c.args.mv c.args.one.place c.args.self.now).0 =
-    ap (λ (x : PlaceReply × State). x.0) (c.in-Some-make.ensures.outcome
-    ∙ ap (outcome c.args.mv c.args.one.place) c.in-Some.ensures.same) in
-    move_reaches g.T.PartialEq.eq c.args.events.now place c.args.self.now (option_copied c.args.recorded) c.args.one c.args.call.now
-    c.args.mv
-    0 c.in-Some-reply_to.reply new
-    (subst (λ (x : PlaceReply). Corresponds c.args.events.now 0 c.args.self.now.queue x c.in-Some-reply_to.reply) reply_by_place
-    c.in-Some-reply_to.ensures.corresponds)
-    (returns-in-Some-calls_with-clause-leads g c new e)

@@ -7,7 +7,6 @@ use Rattle.judge_search.specs.Configurations.{State, with_progress}
 use Rattle.judge_search.specs.Progresses.{progress_of}
 use Rattle.judge_search.specs.Leads.{CallLeadsTo}
 use Rattle.std.specs.Option.{option_copied}
-use Rattle.judge_search.proofs.ReachingLemmas.{refusal_reaches}
 use Rattle.judge_search.proofs.RefusalLeadLemmas.{never_refused, refusal_leads, refusal_same, refusal_wrong}
 use Rattle.judge_search.proofs.configuration.Configuration.after_refusal.Goals as goal
 
@@ -41,8 +40,3 @@ returns-in-Some-clause-leads g c = λ events new e.
     (refusal_leads g.T.PartialEq.eq events c.args.self.now (option_copied c.args.recorded) c.args.one c.args.call.now c.args.mv
     c.stage.result
     c.stage_after-stage.result c.stage.ensures.stage c.stage_after-stage.ensures.stage (sym c.is_wrong.ensures.wrong ∙ c.if-is_wrong.false))
-
-pub returns-in-Some-clause-reaches : goal.returns-in-Some-clause-reaches
-returns-in-Some-clause-reaches g c = λ events new e place.
-    refusal_reaches g.T.PartialEq.eq events place c.args.self.now (option_copied c.args.recorded) c.args.one c.args.call.now c.args.mv new
-    (sym c.may_refuse.ensures.may ∙ c.if-not-may_refuse.false) (returns-in-Some-clause-leads g c events new e)

@@ -1,0 +1,349 @@
+//! The search for choices that lead past all the events: level by level, each level with all the
+//! configurations to which the one before it leads by an event.
+ghost use Rattle.std.specs.Prelude.{◌≡◌, ◌<◌, ◌+◌, ◌++◌, ◌∷◌, [], ℕ, IfSome, IsTrue, length};
+ghost use Rattle.std.specs.List.{Contains};
+ghost use Rattle.judge_search.specs.Dead.{CoverNext, IsDeadEnd};
+ghost use Rattle.judge_search.specs.Levels.{AreDead, AreExpanded, Grows, IsExpanded, IsFollowed};
+ghost use Rattle.judge_search.specs.Search.{dead_at};
+
+use crate::choice::Choice;
+use crate::configuration::Configuration;
+use crate::dead::DeadTable;
+use crate::tries::ChoiceOutcome;
+use flume_core::error::NoMemory;
+use judge_calls::event::Event;
+use std::alloc::Allocator;
+
+/// The result of a search.
+#[derive(Drop)]
+pub enum Searched<A: Allocator> {
+    /// These choices lead past all the events.
+    Path(Vec<Choice, A>),
+    /// No choices do; some lead to the event at this place.
+    Nothing(usize),
+    NoMemory,
+    /// The limit was reached. These choices lead to the event at this place.
+    GaveUp(usize, Vec<Choice, A>),
+}
+
+/// The last choice that led to a configuration, and the trail that led before it, which is an
+/// earlier one.
+#[derive(Clone, Copy, Debug, Drop)]
+struct Trail {
+    before: usize,
+    choice: Choice,
+}
+
+/// Configurations, each once. All but those in work stand before the same event.
+#[derive(Drop)]
+pub struct Level<A: Allocator> {
+    seen: DeadTable<A>,
+    trails: Vec<usize, A>,
+}
+
+#[derive(Drop)]
+enum Advanced<A: Allocator> {
+    Next(Level<A>),
+    /// This trail leads past all the events.
+    AtEnd(usize),
+    NoMemory,
+    GaveUp,
+}
+
+#[derive(Clone, Copy, Debug, Drop)]
+enum Expanded {
+    Whole,
+    AtEnd,
+    NoMemory,
+}
+
+/// Choices that lead past all the events, of at most `limit` configurations.
+pub fn find_path<T: Copy + Eq + Drop, A: Allocator + Copy>(
+    alloc: A,
+    start: Configuration<A>,
+    events: &[Event<T, A>],
+    limit: usize,
+) -> Searched<A>
+    ensures nothing { (place : ℕ) → result ≡ Searched.Nothing place
+        → IsDeadEnd T.eq events.now 0 start }
+{
+    let mut trails = Vec::new(alloc);
+    let mut level = Level::new(alloc);
+    if !level.add(start, 0, 0) {
+        return Searched::NoMemory;
+    }
+    for place in 0..=events.len() {
+        match level.advance(alloc, events, &mut trails, limit) {
+            Advanced::Next(next) if next.seen.dead.is_empty() => return Searched::Nothing(place),
+            Advanced::Next(next) => level = next,
+            Advanced::AtEnd(trail) => return path_result(path_by(alloc, trails.as_slice(), trail)),
+            Advanced::NoMemory => return Searched::NoMemory,
+            Advanced::GaveUp => return gave_up(alloc, trails.as_slice(), &level),
+        }
+    }
+    Searched::NoMemory
+}
+
+/// The configurations after all the events, or none if these are more than `limit`.
+pub fn last_level<T: Copy + Eq + Drop, A: Allocator + Copy>(
+    alloc: A,
+    start: Configuration<A>,
+    events: &[Event<T, A>],
+    limit: usize,
+) -> Result<Level<A>, NoMemory> {
+    let mut trails = Vec::new(alloc);
+    let mut level = Level::new(alloc);
+    if !level.add(start, 0, 0) {
+        return Err(NoMemory);
+    }
+    for _ in events {
+        level = match level.advance(alloc, events, &mut trails, limit) {
+            Advanced::Next(next) => next,
+            Advanced::NoMemory => return Err(NoMemory),
+            Advanced::AtEnd(_) | Advanced::GaveUp => Level::new(alloc),
+        };
+    }
+    Ok(level)
+}
+
+fn path_result<A: Allocator>(path: Option<Vec<Choice, A>>) -> Searched<A>
+    ensures some { (place : ℕ) → (result ≡ Searched.Nothing place) → ⊥ }
+{
+    match path {
+        Some(path) => Searched::Path(path),
+        None => Searched::NoMemory,
+    }
+}
+
+fn gave_up<A: Allocator + Copy>(alloc: A, trails: &[Trail], level: &Level<A>) -> Searched<A>
+    ensures some { (place : ℕ) → (result ≡ Searched.Nothing place) → ⊥ }
+{
+    let place = level.place_at(0);
+    match path_by(alloc, trails, level.trail_at(0)) {
+        Some(path) => Searched::GaveUp(place, path),
+        None => Searched::NoMemory,
+    }
+}
+
+// The choices of a trail, the first one first.
+fn path_by<A: Allocator + Copy>(alloc: A, trails: &[Trail], last: usize) -> Option<Vec<Choice, A>> {
+    let mut path = Vec::new(alloc);
+    let mut at = last;
+    for _ in 0..trails.len() {
+        if at == 0 {
+            break;
+        }
+        let trail = trails.get(at - 1)?;
+        path.push(trail.choice).ok()?;
+        at = trail.before;
+    }
+    path.as_mut_slice().reverse();
+    Some(path)
+}
+
+impl<A: Allocator + Copy> Level<A> {
+    fn new(alloc: A) -> Self
+        ensures none { result.seen.dead.items ≡ [] }
+    {
+        Level {
+            seen: DeadTable::new(alloc),
+            trails: Vec::new(alloc),
+        }
+    }
+
+    fn place_at(&self, index: usize) -> usize {
+        match self.seen.dead.get(index) {
+            Some(one) => one.place,
+            None => 0,
+        }
+    }
+
+    fn trail_at(&self, index: usize) -> usize {
+        self.trails.get(index).copied().unwrap_or(0)
+    }
+
+    // `false`: an allocation failed.
+    fn add(&mut self, configuration: Configuration<A>, place: usize, trail: usize) -> bool
+        ensures added { IsTrue result → self.new.seen.dead.items
+            ≡ self.old.seen.dead.items ++ dead_at place configuration ∷ [] }
+    {
+        self.seen.remember(configuration, place) && self.trails.push(trail).is_ok()
+    }
+
+    /// A copy of a configuration, if there is one.
+    pub fn copy_at(&self, alloc: A, index: usize) -> Result<Option<Configuration<A>>, NoMemory> {
+        match self.seen.dead.get(index) {
+            Some(one) => match one.configuration.try_clone(alloc) {
+                Some(copy) => Ok(Some(copy)),
+                None => Err(NoMemory),
+            },
+            None => Ok(None),
+        }
+    }
+
+    /// `false`: an allocation failed.
+    pub fn has_or_adds(&mut self, configuration: Configuration<A>, place: usize) -> bool {
+        self.seen.has(&configuration, place) || self.add(configuration, place, 0)
+    }
+
+    // The level after the next event.
+    fn advance<T: Copy + Eq + Drop>(
+        &mut self,
+        alloc: A,
+        events: &[Event<T, A>],
+        trails: &mut Vec<Trail, A>,
+        limit: usize,
+    ) -> Advanced<A>
+        ensures next { (next : Level A) → result ≡ Advanced.Next next
+            → AreDead T.eq events.now next.seen.dead.items
+            → AreDead T.eq events.now self.old.seen.dead.items }
+    {
+        let mut next = Level::new(alloc);
+        for index in 0..limit {
+            if index >= self.seen.dead.len() {
+                return Advanced::Next(next);
+            }
+            if trails.len() > limit {
+                return Advanced::GaveUp;
+            }
+            match self.expand(alloc, events, index, &mut next, trails) {
+                Expanded::Whole => {}
+                Expanded::AtEnd => return Advanced::AtEnd(self.trail_at(index)),
+                Expanded::NoMemory => return Advanced::NoMemory,
+            }
+        }
+        Advanced::GaveUp
+    }
+
+    fn expand<T: Copy + Eq + Drop>(
+        &mut self,
+        alloc: A,
+        events: &[Event<T, A>],
+        index: usize,
+        next: &mut Level<A>,
+        trails: &mut Vec<Trail, A>,
+    ) -> Expanded
+        requires within { index < length self.old.seen.dead.items }
+        ensures grown { result ≡ Expanded.Whole
+            → Grows self.old.seen.dead.items self.new.seen.dead.items }
+        ensures expanded { result ≡ Expanded.Whole
+            → AreExpanded T.eq events.now index self.old.seen.dead.items next.old.seen.dead.items
+            → AreExpanded T.eq events.now (index + 1) self.new.seen.dead.items
+            next.new.seen.dead.items }
+    {
+        let before = self.trail_at(index);
+        let one = &self.seen.dead[index];
+        let place = one.place;
+        if place >= events.len() {
+            return Expanded::AtEnd;
+        }
+        let Some(configuration) = one.configuration.try_clone(alloc) else {
+            return Expanded::NoMemory;
+        };
+        if self.follow_all(alloc, events, &configuration, place, before, next, trails) {
+            Expanded::Whole
+        } else {
+            Expanded::NoMemory
+        }
+    }
+
+    fn follow_all<T: Copy + Eq + Drop>(
+        &mut self,
+        alloc: A,
+        events: &[Event<T, A>],
+        configuration: &Configuration<A>,
+        place: usize,
+        before: usize,
+        next: &mut Level<A>,
+        trails: &mut Vec<Trail, A>,
+    ) -> bool
+        requires within { place < length events.now }
+        ensures grown { IsTrue result → Grows self.old.seen.dead.items self.new.seen.dead.items }
+        ensures grown_next { IsTrue result
+            → Grows next.old.seen.dead.items next.new.seen.dead.items }
+        ensures expanded { IsTrue result → IsExpanded T.eq events.now self.new.seen.dead.items
+            next.new.seen.dead.items (dead_at place configuration.now) }
+    {
+        let Some(mut choices) = configuration.what_may_come(alloc, events, place) else {
+            return false;
+        };
+        while let Some(choice) = choices.pop() {
+            let trail = Trail { before, choice };
+            if !self.follow(alloc, events, configuration, place, trail, next, trails) {
+                return false;
+            }
+        }
+        true
+    }
+
+    fn follow<T: Copy + Eq + Drop>(
+        &mut self,
+        alloc: A,
+        events: &[Event<T, A>],
+        configuration: &Configuration<A>,
+        place: usize,
+        trail: Trail,
+        next: &mut Level<A>,
+        trails: &mut Vec<Trail, A>,
+    ) -> bool
+        requires within { place < length events.now }
+        ensures grown { IsTrue result → Grows self.old.seen.dead.items self.new.seen.dead.items }
+        ensures grown_next { IsTrue result
+            → Grows next.old.seen.dead.items next.new.seen.dead.items }
+        ensures followed { IsTrue result → IsFollowed T.eq events.now self.new.seen.dead.items
+            next.new.seen.dead.items place configuration.now trail.choice }
+    {
+        match configuration.try_choice(alloc, events, place, trail.choice) {
+            ChoiceOutcome::Leads(new, at) if at == place => self.enter(new, at, trail, trails),
+            ChoiceOutcome::Leads(new, at) => next.enter(new, at, trail, trails),
+            ChoiceOutcome::Spent => true,
+            ChoiceOutcome::NoMemory => false,
+        }
+    }
+
+    fn enter(
+        &mut self,
+        configuration: Configuration<A>,
+        place: usize,
+        trail: Trail,
+        trails: &mut Vec<Trail, A>,
+    ) -> bool
+        ensures grown { IsTrue result → Grows self.old.seen.dead.items self.new.seen.dead.items }
+        ensures entered { IsTrue result
+            → Contains self.new.seen.dead.items (dead_at place configuration) }
+    {
+        if self.seen.has(&configuration, place) {
+            return true;
+        }
+        trails.push(trail).is_ok() && self.add(configuration, place, trails.len())
+    }
+}
+
+impl<A: Allocator + Copy> Configuration<A> {
+    fn what_may_come<T: Copy + Eq + Drop>(
+        &self,
+        alloc: A,
+        events: &[Event<T, A>],
+        place: usize,
+    ) -> Option<Vec<Choice, A>>
+        requires within { place < length events.now }
+        ensures cover { IfSome result (λ choices.
+            CoverNext T.eq events.now place self.now choices.items) }
+    {
+        match self.returning_call(events, place) {
+            Some(own) => self.choices(alloc, own),
+            None => only_event(alloc),
+        }
+    }
+}
+
+fn only_event<A: Allocator + Copy>(alloc: A) -> Option<Vec<Choice, A>>
+    ensures event { IfSome result (λ choices. choices.items ≡ Choice.TakeEvent ∷ []) }
+{
+    let mut choices = Vec::new(alloc);
+    if choices.extend_from_slice(&[Choice::TakeEvent]).is_ok() {
+        Some(choices)
+    } else {
+        None
+    }
+}
