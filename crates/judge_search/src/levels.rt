@@ -9,6 +9,7 @@ ghost use Rattle.judge_search.specs.Search.{dead_at};
 use crate::choice::Choice;
 use crate::configuration::Configuration;
 use crate::dead::DeadTable;
+use crate::trails::{Trail, Trails, path_by};
 use crate::tries::ChoiceOutcome;
 use flume_core::error::NoMemory;
 use judge_calls::event::Event;
@@ -24,14 +25,6 @@ pub enum Searched<A: Allocator> {
     NoMemory,
     /// The limit was reached. These choices lead to the event at this place.
     GaveUp(usize, Vec<Choice, A>),
-}
-
-/// The last choice that led to a configuration, and the trail that led before it, which is an
-/// earlier one.
-#[derive(Clone, Copy, Debug, Drop)]
-struct Trail {
-    before: usize,
-    choice: Choice,
 }
 
 /// Configurations, each once. All but those in work stand before the same event.
@@ -57,7 +50,7 @@ enum Expanded {
     NoMemory,
 }
 
-/// Choices that lead past all the events, of at most `limit` configurations.
+/// Choices that lead past all the events, if steps enter at most `limit` configurations.
 pub fn find_path<T: Copy + Eq + Drop, A: Allocator + Copy>(
     alloc: A,
     start: Configuration<A>,
@@ -67,7 +60,7 @@ pub fn find_path<T: Copy + Eq + Drop, A: Allocator + Copy>(
     ensures nothing { (place : ℕ) → result ≡ Searched.Nothing place
         → IsDeadEnd T.eq events.now 0 start }
 {
-    let mut trails = Vec::new(alloc);
+    let mut trails = Trails::new(alloc);
     let mut level = Level::new(alloc);
     if !level.add(start, 0, 0) {
         return Searched::NoMemory;
@@ -76,22 +69,26 @@ pub fn find_path<T: Copy + Eq + Drop, A: Allocator + Copy>(
         match level.advance(alloc, events, &mut trails, limit) {
             Advanced::Next(next) if next.seen.dead.is_empty() => return Searched::Nothing(place),
             Advanced::Next(next) => level = next,
-            Advanced::AtEnd(trail) => return path_result(path_by(alloc, trails.as_slice(), trail)),
+            Advanced::AtEnd(trail) => return path_result(path_by(
+                alloc,
+                trails.list.as_slice(),
+                trail,
+            )),
             Advanced::NoMemory => return Searched::NoMemory,
-            Advanced::GaveUp => return gave_up(alloc, trails.as_slice(), &level),
+            Advanced::GaveUp => return gave_up(alloc, trails.list.as_slice(), &level),
         }
     }
     Searched::NoMemory
 }
 
-/// The configurations after all the events, or none if these are more than `limit`.
+/// The configurations after all the events, or none if steps enter more than `limit`.
 pub fn last_level<T: Copy + Eq + Drop, A: Allocator + Copy>(
     alloc: A,
     start: Configuration<A>,
     events: &[Event<T, A>],
     limit: usize,
 ) -> Result<Level<A>, NoMemory> {
-    let mut trails = Vec::new(alloc);
+    let mut trails = Trails::new(alloc);
     let mut level = Level::new(alloc);
     if !level.add(start, 0, 0) {
         return Err(NoMemory);
@@ -123,22 +120,6 @@ fn gave_up<A: Allocator + Copy>(alloc: A, trails: &[Trail], level: &Level<A>) ->
         Some(path) => Searched::GaveUp(place, path),
         None => Searched::NoMemory,
     }
-}
-
-// The choices of a trail, the first one first.
-fn path_by<A: Allocator + Copy>(alloc: A, trails: &[Trail], last: usize) -> Option<Vec<Choice, A>> {
-    let mut path = Vec::new(alloc);
-    let mut at = last;
-    for _ in 0..trails.len() {
-        if at == 0 {
-            break;
-        }
-        let trail = trails.get(at - 1)?;
-        path.push(trail.choice).ok()?;
-        at = trail.before;
-    }
-    path.as_mut_slice().reverse();
-    Some(path)
 }
 
 impl<A: Allocator + Copy> Level<A> {
@@ -191,7 +172,7 @@ impl<A: Allocator + Copy> Level<A> {
         &mut self,
         alloc: A,
         events: &[Event<T, A>],
-        trails: &mut Vec<Trail, A>,
+        trails: &mut Trails<A>,
         limit: usize,
     ) -> Advanced<A>
         ensures next { (next : Level A) → result ≡ Advanced.Next next
@@ -199,11 +180,11 @@ impl<A: Allocator + Copy> Level<A> {
             → AreDead T.eq events.now self.old.seen.dead.items }
     {
         let mut next = Level::new(alloc);
-        for index in 0..limit {
+        for index in 0..usize::MAX {
             if index >= self.seen.dead.len() {
                 return Advanced::Next(next);
             }
-            if trails.len() > limit {
+            if trails.steps > limit {
                 return Advanced::GaveUp;
             }
             match self.expand(alloc, events, index, &mut next, trails) {
@@ -221,7 +202,7 @@ impl<A: Allocator + Copy> Level<A> {
         events: &[Event<T, A>],
         index: usize,
         next: &mut Level<A>,
-        trails: &mut Vec<Trail, A>,
+        trails: &mut Trails<A>,
     ) -> Expanded
         requires within { index < length self.old.seen.dead.items }
         ensures grown { result ≡ Expanded.Whole
@@ -255,7 +236,7 @@ impl<A: Allocator + Copy> Level<A> {
         place: usize,
         before: usize,
         next: &mut Level<A>,
-        trails: &mut Vec<Trail, A>,
+        trails: &mut Trails<A>,
     ) -> bool
         requires within { place < length events.now }
         ensures grown { IsTrue result → Grows self.old.seen.dead.items self.new.seen.dead.items }
@@ -284,7 +265,7 @@ impl<A: Allocator + Copy> Level<A> {
         place: usize,
         trail: Trail,
         next: &mut Level<A>,
-        trails: &mut Vec<Trail, A>,
+        trails: &mut Trails<A>,
     ) -> bool
         requires within { place < length events.now }
         ensures grown { IsTrue result → Grows self.old.seen.dead.items self.new.seen.dead.items }
@@ -306,7 +287,7 @@ impl<A: Allocator + Copy> Level<A> {
         configuration: Configuration<A>,
         place: usize,
         trail: Trail,
-        trails: &mut Vec<Trail, A>,
+        trails: &mut Trails<A>,
     ) -> bool
         ensures grown { IsTrue result → Grows self.old.seen.dead.items self.new.seen.dead.items }
         ensures entered { IsTrue result
@@ -315,7 +296,7 @@ impl<A: Allocator + Copy> Level<A> {
         if self.seen.has(&configuration, place) {
             return true;
         }
-        trails.push(trail).is_ok() && self.add(configuration, place, trails.len())
+        trails.push(trail) && self.add(configuration, place, trails.list.len())
     }
 }
 

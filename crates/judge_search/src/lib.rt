@@ -28,5 +28,6 @@ mod replay;
 mod replies;
 mod sends;
 mod step_of;
+mod trails;
 mod tries;
 mod wakes;
