@@ -1,4 +1,4 @@
-//! Remembers configurations from which no explanation is found.
+//! Remembers configurations: those of a level, or those from which a guess found nothing.
 ghost use Rattle.std.specs.Prelude.{◌≡◌, ◌++◌, ◌∷◌, [], IsTrue};
 ghost use Rattle.std.specs.List.{Contains};
 ghost use Rattle.judge_search.specs.Search.{dead_at};
@@ -8,7 +8,7 @@ use std::alloc::Allocator;
 use std::collections::HashMap;
 use std::hash::{BuildHasherDefault, FoldHasher};
 
-/// A configuration from which no explanation is found.
+/// A configuration before the event at this place.
 #[derive(Drop)]
 pub struct Dead<A: Allocator> {
     pub configuration: Configuration<A>,

@@ -40,7 +40,8 @@ pub enum Checked {
 }
 
 /// Looks for an explanation of the events, the oldest first, on a channel of this capacity (`None`:
-/// unbounded). A guess and then a search enter at most `limit` configurations each after the first.
+/// unbounded). A guess enters at most `limit` configurations, and then a search follows at most so many
+/// steps.
 pub fn explain<T: Copy + Eq + Drop, A: Allocator + Copy>(
     alloc: A,
     capacity: Option<usize>,
@@ -67,8 +68,8 @@ pub fn explain<T: Copy + Eq + Drop, A: Allocator + Copy>(
 }
 
 /// Finds how many events are explained, the oldest first, on a channel of this capacity (`None`:
-/// unbounded). For all of them a guess and then a search enter at most `limit` configurations each
-/// after the first, and for fewer events a tenth. A pattern that refutes them spares the search.
+/// unbounded). For all of them a guess enters at most `limit` configurations, and then a search follows
+/// at most so many steps; for fewer events it is a tenth. A pattern that refutes them spares that.
 pub fn check_calls<T: Copy + Eq + Drop, A: Allocator + Copy>(
     alloc: A,
     capacity: Option<usize>,

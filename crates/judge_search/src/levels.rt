@@ -8,7 +8,7 @@ ghost use Rattle.judge_search.specs.Search.{dead_at};
 
 use crate::choice::Choice;
 use crate::configuration::Configuration;
-use crate::dead::DeadTable;
+use crate::dead::{Dead, DeadTable};
 use crate::trails::{Trail, Trails, path_by};
 use crate::tries::ChoiceOutcome;
 use flume_core::error::NoMemory;
@@ -27,7 +27,7 @@ pub enum Searched<A: Allocator> {
     GaveUp(usize, Vec<Choice, A>),
 }
 
-/// Configurations, each once. All but those in work stand before the same event.
+/// Configurations before an event, without those that `seen` finds a second time.
 #[derive(Drop)]
 pub struct Level<A: Allocator> {
     seen: DeadTable<A>,
@@ -50,7 +50,7 @@ enum Expanded {
     NoMemory,
 }
 
-/// Choices that lead past all the events, if steps enter at most `limit` configurations.
+/// Choices that lead past all the events. It gives up once more than `limit` steps were followed.
 pub fn find_path<T: Copy + Eq + Drop, A: Allocator + Copy>(
     alloc: A,
     start: Configuration<A>,
@@ -81,28 +81,6 @@ pub fn find_path<T: Copy + Eq + Drop, A: Allocator + Copy>(
     Searched::NoMemory
 }
 
-/// The configurations after all the events, or none if steps enter more than `limit`.
-pub fn last_level<T: Copy + Eq + Drop, A: Allocator + Copy>(
-    alloc: A,
-    start: Configuration<A>,
-    events: &[Event<T, A>],
-    limit: usize,
-) -> Result<Level<A>, NoMemory> {
-    let mut trails = Trails::new(alloc);
-    let mut level = Level::new(alloc);
-    if !level.add(start, 0, 0) {
-        return Err(NoMemory);
-    }
-    for _ in events {
-        level = match level.advance(alloc, events, &mut trails, limit) {
-            Advanced::Next(next) => next,
-            Advanced::NoMemory => return Err(NoMemory),
-            Advanced::AtEnd(_) | Advanced::GaveUp => Level::new(alloc),
-        };
-    }
-    Ok(level)
-}
-
 fn path_result<A: Allocator>(path: Option<Vec<Choice, A>>) -> Searched<A>
     ensures some { (place : ℕ) → (result ≡ Searched.Nothing place) → ⊥ }
 {
@@ -123,6 +101,36 @@ fn gave_up<A: Allocator + Copy>(alloc: A, trails: &[Trail], level: &Level<A>) ->
 }
 
 impl<A: Allocator + Copy> Level<A> {
+    /// The level before any event.
+    pub fn first(alloc: A, start: Configuration<A>) -> Result<Self, NoMemory> {
+        let mut level = Level::new(alloc);
+        if level.add(start, 0, 0) {
+            Ok(level)
+        } else {
+            Err(NoMemory)
+        }
+    }
+
+    /// The level after the next event, or an empty one if more than `limit` steps were followed.
+    pub fn next<T: Copy + Eq + Drop>(
+        &mut self,
+        alloc: A,
+        events: &[Event<T, A>],
+        trails: &mut Trails<A>,
+        limit: usize,
+    ) -> Result<Self, NoMemory> {
+        match self.advance(alloc, events, trails, limit) {
+            Advanced::Next(next) => Ok(next),
+            Advanced::NoMemory => Err(NoMemory),
+            Advanced::AtEnd(_) | Advanced::GaveUp => Ok(Level::new(alloc)),
+        }
+    }
+
+    /// The configurations, with their places.
+    pub fn entered(&self) -> &[Dead<A>] {
+        &self.seen.dead
+    }
+
     fn new(alloc: A) -> Self
         ensures none { result.seen.dead.items ≡ [] }
     {

@@ -10,7 +10,7 @@ pub struct Trail {
     pub choice: Choice,
 }
 
-/// The trails of all configurations that were entered, and how many were by a step.
+/// The trails of all configurations that were entered, and how many of these by a step.
 #[derive(Drop)]
 pub struct Trails<A: Allocator> {
     pub list: Vec<Trail, A>,
