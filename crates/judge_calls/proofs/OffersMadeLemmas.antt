@@ -96,7 +96,7 @@ module _ {T A : Type 0} (such : T → Bool) where
   IsOther None = Unit {0}
   IsOther (Some current) = sends such current.0 ≡ false
 
-  made_none : (current : Option (Call T × Stage T A)) (s : Step T) → IsOther current → IsNextStep current s → hands_in such s ≡ false
+  pub made_none : (current : Option (Call T × Stage T A)) (s : Step T) → IsOther current → IsNextStep current s → hands_in such s ≡ false
   made_none None s others made = absurd made
   made_none (Some current) s others (inl made) =
       subst (λ x. hands_in_if such x ≡ false) made (next_none current.0 current.1 others)
@@ -104,7 +104,7 @@ module _ {T A : Type 0} (such : T → Bool) where
       subst (λ x. hands_in_if such x ≡ false) made (other_none current.0 current.1 others)
 
   -- a step that hands in no such message offers none
-  made_lacks : (log : Log T A) (s : Step T) (r : Reply T A) → hands_in such s ≡ false → Lacks such (offers_made (change log s r))
+  pub made_lacks : (log : Log T A) (s : Step T) (r : Reply T A) → hands_in such s ≡ false → Lacks such (offers_made (change log s r))
   made_lacks log (step.TrySend m) (reply.Sent filled) h = (h, tt)
   made_lacks log (step.Send m) (reply.Sent filled) h = (h, tt)
   made_lacks log (step.Send m) (reply.Pending t) h = (h, tt)

@@ -9,12 +9,12 @@ use Rattle.judge_calls.specs.declared.event.Event.{Event}
 use Rattle.judge_calls.specs.declared.event.Item.{Item}
 use Rattle.judge_search.specs.declared.choice.Choice.{Choice}
 use Rattle.judge_search.specs.declared.choice.Choice.TheVariants.{TakeEvent}
-use Rattle.judge_search.specs.declared.dead.Dead.{Dead}
+use Rattle.judge_search.specs.declared.table.ConfigurationAt.{ConfigurationAt}
 use Rattle.judge_search.specs.Configurations.{State}
 use Rattle.judge_search.specs.Agreement.{Agrees}
 use Rattle.judge_search.specs.Dead.{Completes, CoverNext, AreSteps, IsDeadEnd, IsDeadEndWithin, IsItemOf, IsSpent, LeadsOnly}
 use Rattle.judge_search.specs.Levels.{Grows, AreDeadWithin, AreDead, IsFollowed, IsExpanded, AreExpanded}
-use Rattle.judge_search.specs.Search.{dead_at}
+use Rattle.judge_search.specs.Search.{configuration_at}
 use Rattle.judge_search.proofs.CoverLemmas.{each_step}
 use Rattle.judge_search.proofs.ThreadCallLemmas.{call_by-found}
 
@@ -39,7 +39,7 @@ module _ {T A : Type 0} (equal : T → T → Bool) (events : List (Event T A)) w
   some_left place within is = omega (arith, length-drop place events, ap length is)
 
   -- what is expanded stays so as levels grow
-  pub stays : (level next level' next' : List (Dead A)) → Grows level level' → Grows next next' → (d : Dead A)
+  pub stays : (level next level' next' : List (ConfigurationAt A)) → Grows level level' → Grows next next' → (d : ConfigurationAt A)
       → IsExpanded equal events level next d → IsExpanded equal events level' next' d
   stays level next level' next' grows grows_next d expanded = record {
     is_within = expanded.is_within;
@@ -48,19 +48,19 @@ module _ {T A : Type 0} (equal : T → T → Bool) (events : List (Event T A)) w
   }
 
   -- what may come next is among these choices, if nothing comes of the levels
-  abbrev pub AreLeft : (level next : List (Dead A)) → ℕ → State → List Choice → Type 0
+  abbrev pub AreLeft : (level next : List (ConfigurationAt A)) → ℕ → State → List Choice → Type 0
   AreLeft level next place c choices = (n : ℕ) → IsDeadEndWithin equal events n place c → AreDeadWithin equal events n level
       → AreDead equal events next → (o : Opening) (past : List (Item T A)) (item : Item T A) (items : List (Item T A))
       → length items ≤ n → Agrees equal events o past (drop place events) c
       → Completes equal events o past place (item ∷ items)
       → (choice : Choice) × Contains choices choice × IsItemOf equal events c past choice item
 
-  pub all_left : (level next : List (Dead A)) (place : ℕ) (c : State) (choices : List Choice) → CoverNext equal events place c choices
+  pub all_left : (level next : List (ConfigurationAt A)) (place : ℕ) (c : State) (choices : List Choice) → CoverNext equal events place c choices
       → AreLeft level next place c choices
   all_left level next place c choices cover n gone all none o past item items few agrees on =
       cover o past item items agrees (λ p q l short. gone p q l (omega (arith, few, short))) on
 
-  pub one_less : (level next level' next' : List (Dead A)) (place : ℕ) (c : State) (choices : List Choice) (last : Choice)
+  pub one_less : (level next level' next' : List (ConfigurationAt A)) (place : ℕ) (c : State) (choices : List Choice) (last : Choice)
       → AreLeft level next place c (choices ++ last ∷ []) → Grows level level' → Grows next next'
       → IsFollowed equal events level' next' place c last → AreLeft level' next' place c choices
   one_less level next level' next' place c choices last left grows grows_next followed n gone all none o past item items few agrees on =
@@ -74,8 +74,8 @@ module _ {T A : Type 0} (equal : T → T → Bool) (events : List (Event T A)) w
       other choice of (inr is) = absurd (followed n gone all none o past item items few agrees on
           (subst (λ x. IsItemOf equal events c past x item) (sym is) of))
 
-  pub none_left : (level next : List (Dead A)) (place : ℕ) (c : State) → place < length events → AreLeft level next place c []
-      → IsExpanded equal events level next (dead_at place c)
+  pub none_left : (level next : List (ConfigurationAt A)) (place : ℕ) (c : State) → place < length events → AreLeft level next place c []
+      → IsExpanded equal events level next (configuration_at place c)
   none_left level next place c within left = record { is_within = within; leads = by }
     where
       by : (n : ℕ) → IsDeadEndWithin equal events n place c → AreDeadWithin equal events n level → AreDead equal events next
@@ -100,25 +100,31 @@ module _ {T A : Type 0} (equal : T → T → Bool) (events : List (Event T A)) w
   only_cover of (Some v) place c is cover = subst (CoverNext equal events place c) (sym is) cover
 
   -- a choice is followed if it leads into a level, or nowhere
-  pub into_level : (level next : List (Dead A)) (place : ℕ) (c : State) (choice : Choice) (at : ℕ) (new : State)
-      → LeadsOnly equal events place c choice at new → Contains level (dead_at at new)
+  pub into_level : (level next : List (ConfigurationAt A)) (place : ℕ) (c : State) (choice : Choice) (at : ℕ) (new : State)
+      → LeadsOnly equal events place c choice at new → Contains level (configuration_at at new)
       → IsFollowed equal events level next place c choice
   into_level level next place c choice at new leads has n gone all none o past item items few agrees on of =
-      leads o past item items agrees (λ p q l short. all (dead_at at new) has p q l (omega (arith, few, short))) on of
+      leads o past item items agrees (λ p q l short. all (configuration_at at new) has p q l (omega (arith, few, short))) on of
 
-  pub into_next : (level next : List (Dead A)) (place : ℕ) (c : State) (choice : Choice) (at : ℕ) (new : State)
-      → LeadsOnly equal events place c choice at new → Contains next (dead_at at new)
+  pub into_next : (level next : List (ConfigurationAt A)) (place : ℕ) (c : State) (choice : Choice) (at : ℕ) (new : State)
+      → LeadsOnly equal events place c choice at new → Contains next (configuration_at at new)
       → IsFollowed equal events level next place c choice
   into_next level next place c choice at new leads has n gone all none o past item items few agrees on of =
-      leads o past item items agrees (λ p q l short. none (dead_at at new) has p q l) on of
+      leads o past item items agrees (λ p q l short. none (configuration_at at new) has p q l) on of
 
-  pub nowhere : (level next : List (Dead A)) (place : ℕ) (c : State) (choice : Choice) → IsSpent equal events place c choice
+  pub nowhere : (level next : List (ConfigurationAt A)) (place : ℕ) (c : State) (choice : Choice) → IsSpent equal events place c choice
       → IsFollowed equal events level next place c choice
   nowhere level next place c choice spent n gone all none o past item items few agrees on of =
       spent o past item items agrees (λ p q l short. gone p q l (omega (arith, few, short))) on of
 
+  pub into_dead : (level next : List (ConfigurationAt A)) (place : ℕ) (c : State) (choice : Choice) (at : ℕ) (new : State)
+      → LeadsOnly equal events place c choice at new → IsDeadEnd equal events at new
+      → IsFollowed equal events level next place c choice
+  into_dead level next place c choice at new leads dead n gone all none o past item items few agrees on of =
+      leads o past item items agrees (λ p q l short. dead p q l) on of
+
   -- one more of a level is expanded
-  pub one_more : (index : ℕ) (level next level' next' : List (Dead A)) (d : Dead A)
+  pub one_more : (index : ℕ) (level next level' next' : List (ConfigurationAt A)) (d : ConfigurationAt A)
       → take (index + 1) level ≡ take index level ++ d ∷ [] → index < length level
       → Grows level level' → Grows next next' → IsExpanded equal events level' next' d → AreExpanded equal events index level next
       → AreExpanded equal events (index + 1) level' next'
@@ -131,7 +137,7 @@ module _ {T A : Type 0} (equal : T → T → Bool) (events : List (Event T A)) w
       by (inr same) = subst (IsExpanded equal events level' next') same expanded
 
   -- with all of them expanded, the level is dead if the next one is
-  within : (level next : List (Dead A)) → AreExpanded equal events (length level) level next → AreDead equal events next
+  within : (level next : List (ConfigurationAt A)) → AreExpanded equal events (length level) level next → AreDead equal events next
       → (n : ℕ) → AreDeadWithin equal events n level
   within level next expanded none zero d has o past [] short agrees on =
       some_left d.place (expanded d (subst (λ l. Contains l d) (sym (take-length level)) has)).is_within (sym on.events_are)
@@ -140,33 +146,33 @@ module _ {T A : Type 0} (equal : T → T → Bool) (events : List (Event T A)) w
       (expanded d (subst (λ l. Contains l d) (sym (take-length level)) has)).leads n (within level next expanded none n d has)
       (within level next expanded none n) none o past items (omega (arith, short)) agrees on
 
-  pub all_dead : (level next : List (Dead A)) → AreExpanded equal events (length level) level next → AreDead equal events next
+  pub all_dead : (level next : List (ConfigurationAt A)) → AreExpanded equal events (length level) level next → AreDead equal events next
       → AreDead equal events level
   all_dead level next expanded none d has o past items agrees on =
       within level next expanded none (length items) d has o past items (omega arith) agrees on
 
   -- as long as the level may have grown
-  pub level_dead : (index : ℕ) (old level next : List (Dead A)) → Grows old level → length level ≤ index
+  pub level_dead : (index : ℕ) (old level next : List (ConfigurationAt A)) → Grows old level → length level ≤ index
       → AreExpanded equal events index level next → AreDead equal events next → AreDead equal events old
   level_dead index old level next grows past expanded none d has =
       all_dead level next (λ e among. expanded e (subst (λ l. Contains l e) (take-length level ∙ sym (take_all index level past)) among))
       none d (keeps old level d grows has)
 
   -- before any of them is
-  pub none_yet : (level next : List (Dead A)) → AreExpanded equal events 0 level next
+  pub none_yet : (level next : List (ConfigurationAt A)) → AreExpanded equal events 0 level next
   none_yet level next d has = let none = has.1 in absurd (omega (arith, none))
 
   -- the level of the start alone, and one with none
-  pub only_start : (level : List (Dead A)) (c : State) → level ≡ [] ++ dead_at 0 c ∷ [] → AreDead equal events level
+  pub only_start : (level : List (ConfigurationAt A)) (c : State) → level ≡ [] ++ configuration_at 0 c ∷ [] → AreDead equal events level
       → IsDeadEnd equal events 0 c
   only_start level c is all =
-      all (dead_at 0 c) (subst (λ l. Contains l (dead_at 0 c)) (sym is) (0, omega arith, refl))
+      all (configuration_at 0 c) (subst (λ l. Contains l (configuration_at 0 c)) (sym is) (0, omega arith, refl))
 
-  pub no_more : (level : List (Dead A)) → length level ≡ 0 → AreDead equal events level
+  pub no_more : (level : List (ConfigurationAt A)) → length level ≡ 0 → AreDead equal events level
   no_more level none d has = let some = has.1 in absurd (omega (arith, none, some))
 
   -- what was read of a level, as a list that ends with it
-  pub up_to : (level : List (Dead A)) (index : ℕ) (d : Dead A) → index < length level → d ≡ get_or level index d
+  pub up_to : (level : List (ConfigurationAt A)) (index : ℕ) (d : ConfigurationAt A) → index < length level → d ≡ get_or level index d
       → take (index + 1) level ≡ take index level ++ d ∷ []
   up_to level index d within is =
       ap (λ n. take n level) (let more : index + 1 ≡ suc index = omega arith in more) ∙ take-suc level index d within

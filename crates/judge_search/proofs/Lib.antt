@@ -95,8 +95,6 @@ pub mod ReceiveMoveLemmas
 pub mod PollMoveLemmas
 -- A parked receive that leaves answers as the channel does.
 pub mod WithdrawMoveLemmas
--- A call that sends no message isn't blocked as a send.
-pub mod UnblockedReceiveLemmas
 -- The queries answer as their steps do, and change nothing.
 pub mod QueryMoveLemmas
 -- The moves by which ends join and leave answer as their steps do.
@@ -109,3 +107,9 @@ pub mod LeavingEndLemmas
 pub mod EachMoveLemmas
 -- A level of configurations is dead if the next one is, once each of them was expanded.
 pub mod LevelLemmas
+-- What is so after more items: what an open call got, what was offered, and what of that is kept.
+pub mod LaterItemLemmas
+-- Which messages are in the line, and which of them can't be handed out after another one.
+pub mod LineLemmas
+-- A configuration is dead if a message in its queue is overtaken.
+pub mod OvertakingLemmas

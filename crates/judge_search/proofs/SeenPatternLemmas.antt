@@ -12,7 +12,7 @@ use Rattle.judge_calls.specs.Patterns.{begins_send, all_returned, IsOutOfOrder, 
 
 module _ {X : Type 0} where
   -- a list, split at the element at a place
-  split_at : (xs : List X) (k : ℕ) (x : X) → k < length xs → x ≡ get_or xs k x → xs ≡ take k xs ++ x ∷ drop (k + 1) xs
+  pub split_at : (xs : List X) (k : ℕ) (x : X) → k < length xs → x ≡ get_or xs k x → xs ≡ take k xs ++ x ∷ drop (k + 1) xs
   split_at xs k x within is =
       sym (take-append-drop k xs) ∙ ap (λ ys. take k xs ++ ys) (drop-cons xs k x within ∙ ap (λ y. y ∷ drop (suc k) xs) (sym is)
       ∙ ap (λ n. x ∷ drop n xs) (let more : suc k ≡ k + 1 = omega arith in more))

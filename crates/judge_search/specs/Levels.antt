@@ -5,7 +5,7 @@ use Rattle.flume_model.specs.Log.{Opening}
 use Rattle.judge_calls.specs.declared.event.Event.{Event}
 use Rattle.judge_calls.specs.declared.event.Item.{Item}
 use Rattle.judge_search.specs.declared.choice.Choice.{Choice}
-use Rattle.judge_search.specs.declared.dead.Dead.{Dead}
+use Rattle.judge_search.specs.declared.table.ConfigurationAt.{ConfigurationAt}
 use Rattle.judge_search.specs.Configurations.{State}
 use Rattle.judge_search.specs.Agreement.{Agrees}
 use Rattle.judge_search.specs.Dead.{Completes, IsDeadEnd, IsDeadEndWithin, IsItemOf}
@@ -16,13 +16,13 @@ Grows {X} before after = (more : List X) × (after ≡ before ++ more)
 
 module _ {T A : Type 0} (equal : T → T → Bool) (events : List (Event T A)) where
   -- from none of these do items complete an explanation that are at most this many
-  abbrev pub AreDeadWithin : ℕ → List (Dead A) → Type 0
-  AreDeadWithin n level = (d : Dead A) → Contains level d
+  abbrev pub AreDeadWithin : ℕ → List (ConfigurationAt A) → Type 0
+  AreDeadWithin n level = (d : ConfigurationAt A) → Contains level d
       → IsDeadEndWithin equal events n d.place d.configuration
 
   -- from none of these do any items
-  abbrev pub AreDead : List (Dead A) → Type 0
-  AreDead level = (d : Dead A) → Contains level d
+  abbrev pub AreDead : List (ConfigurationAt A) → Type 0
+  AreDead level = (d : ConfigurationAt A) → Contains level d
       → IsDeadEnd equal events d.place d.configuration
 
   -- nothing of this choice comes next, with at most this many items after it
@@ -34,18 +34,18 @@ module _ {T A : Type 0} (equal : T → T → Bool) (events : List (Event T A)) w
       → IsItemOf equal events c past choice item → ⊥
 
   -- what this choice leads to is in the level, or in the next one
-  abbrev pub IsFollowed : (level next : List (Dead A)) → ℕ → State → Choice → Type 0
+  abbrev pub IsFollowed : (level next : List (ConfigurationAt A)) → ℕ → State → Choice → Type 0
   IsFollowed level next place c choice = (n : ℕ) → IsDeadEndWithin equal events n place c
       → AreDeadWithin n level → AreDead next → IsSpentWithin n place c choice
 
   -- what may come next leads into the level, or into the next one
-  pub record IsExpanded (level next : List (Dead A)) (d : Dead A) : Type 0 where
+  pub record IsExpanded (level next : List (ConfigurationAt A)) (d : ConfigurationAt A) : Type 0 where
     pub is_within : d.place < length events
     pub leads : (n : ℕ) → IsDeadEndWithin equal events n d.place d.configuration
         → AreDeadWithin n level → AreDead next
         → IsDeadEndWithin equal events (n + 1) d.place d.configuration
 
   -- of the first ones of the level
-  abbrev pub AreExpanded : ℕ → (level next : List (Dead A)) → Type 0
+  abbrev pub AreExpanded : ℕ → (level next : List (ConfigurationAt A)) → Type 0
   AreExpanded count level next =
-      (d : Dead A) → Contains (take count level) d → IsExpanded level next d
+      (d : ConfigurationAt A) → Contains (take count level) d → IsExpanded level next d

@@ -12,4 +12,5 @@ pub mod Levels
 pub mod Happens
 pub mod Refusals
 pub mod Dead
+pub mod Overtaking
 pub mod Search

@@ -3,13 +3,13 @@ use Rattle.std.specs.Prelude.{◌≡◌, ◌≤◌, ◌<◌, ℕ, ◌+◌, Bool,
 use Rattle.flume_model.specs.Log.{Opening}
 use Rattle.judge_calls.specs.declared.event.Event.{Event}
 use Rattle.judge_calls.specs.Explanations.{events_in, IsExplained}
-use Rattle.judge_search.specs.declared.dead.Dead.{Dead}
+use Rattle.judge_search.specs.declared.table.ConfigurationAt.{ConfigurationAt}
 use Rattle.judge_search.specs.declared.replay.Replay.{Replay}
 use Rattle.judge_search.specs.Configurations.{State}
 
 -- a configuration at a place, as one that is remembered
-abbrev pub dead_at : {A : Type 0} → ℕ → State → Dead A
-dead_at place c = record { configuration = c; place = place }
+abbrev pub configuration_at : {A : Type 0} → ℕ → State → ConfigurationAt A
+configuration_at place c = record { configuration = c; place = place }
 
 module _ {T A : Type 0} where
   -- the items so far have the events that were taken

@@ -10,8 +10,8 @@ use judge_calls::event::Event;
 use std::alloc::{AllocError, Allocator};
 
 /// Answers to which the last call of this thread may come by the events, on a channel of this
-/// capacity (`None`: unbounded). If more than `limit` steps are followed, some or all are missing;
-/// those of refused memory always are.
+/// capacity (`None`: unbounded). If more than `limit` configurations are entered by steps, some or all
+/// are missing; those of refused memory always are.
 pub fn answers_after<T: Copy + Eq + Drop, A: Allocator + Copy>(
     alloc: A,
     capacity: Option<usize>,
@@ -23,7 +23,7 @@ pub fn answers_after<T: Copy + Eq + Drop, A: Allocator + Copy>(
     let Some(begun) = last_begun(events, thread) else {
         return Ok(answers);
     };
-    let mut trails = Trails::new(alloc);
+    let mut trails = Trails::new(alloc, events).ok_or(NoMemory)?;
     let mut level = Level::first(alloc, Configuration::new(alloc, capacity))?;
     for _ in events {
         let next = level.next(alloc, events, &mut trails, limit)?;

@@ -40,8 +40,8 @@ pub enum Checked {
 }
 
 /// Looks for an explanation of the events, the oldest first, on a channel of this capacity (`None`:
-/// unbounded). A guess enters at most `limit` configurations, and then a search follows at most so many
-/// steps.
+/// unbounded). A guess enters at most `limit` configurations. Then a search enters so many by steps,
+/// and at most those more to which the steps from one configuration lead.
 pub fn explain<T: Copy + Eq + Drop, A: Allocator + Copy>(
     alloc: A,
     capacity: Option<usize>,
@@ -68,8 +68,8 @@ pub fn explain<T: Copy + Eq + Drop, A: Allocator + Copy>(
 }
 
 /// Finds how many events are explained, the oldest first, on a channel of this capacity (`None`:
-/// unbounded). For all of them a guess enters at most `limit` configurations, and then a search follows
-/// at most so many steps; for fewer events it is a tenth. A pattern that refutes them spares that.
+/// unbounded). The limit for all of them is as of `explain`; for fewer events it is a tenth. A pattern
+/// that refutes them spares the guess and the search.
 pub fn check_calls<T: Copy + Eq + Drop, A: Allocator + Copy>(
     alloc: A,
     capacity: Option<usize>,

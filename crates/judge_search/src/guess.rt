@@ -2,9 +2,9 @@
 use crate::call_records::CallRecords;
 use crate::choice::Choice;
 use crate::configuration::{Configuration, OpenCall, Progress};
-use crate::dead::DeadTable;
 use crate::frame::{Frame, Next};
 use crate::happens::Forced;
+use crate::table::ConfigurationTable;
 use crate::tries::ChoiceOutcome;
 use judge_calls::event::Event;
 use std::alloc::Allocator;
@@ -17,7 +17,7 @@ const MOST_FRAMES: usize = 200;
 struct Guess<A: Allocator> {
     frames: VecDeque<Frame<A>, A>,
     chosen: Vec<Choice, A>,
-    dead: DeadTable<A>,
+    dead: ConfigurationTable<A>,
     records: CallRecords<A>,
 }
 
@@ -31,7 +31,7 @@ pub fn guess_path<T: Copy + Eq + Drop, A: Allocator + Copy>(
     let mut guess = Guess {
         frames: VecDeque::new(alloc),
         chosen: Vec::new(alloc),
-        dead: DeadTable::new(alloc),
+        dead: ConfigurationTable::new(alloc),
         records: CallRecords::new(alloc, events)?,
     };
     let (mut next, mut place) = (start, 0);

@@ -1,14 +1,15 @@
 //! The search for choices that lead past all the events: level by level, each level with all the
-//! configurations to which the one before it leads by an event.
+//! configurations to which the one before it leads by an event, but for those in whose queue a
+//! message stands that can't be received as recorded.
 ghost use Rattle.std.specs.Prelude.{◌≡◌, ◌<◌, ◌+◌, ◌++◌, ◌∷◌, [], ℕ, IfSome, IsTrue, length};
 ghost use Rattle.std.specs.List.{Contains};
 ghost use Rattle.judge_search.specs.Dead.{CoverNext, IsDeadEnd};
 ghost use Rattle.judge_search.specs.Levels.{AreDead, AreExpanded, Grows, IsExpanded, IsFollowed};
-ghost use Rattle.judge_search.specs.Search.{dead_at};
+ghost use Rattle.judge_search.specs.Search.{configuration_at};
 
 use crate::choice::Choice;
 use crate::configuration::Configuration;
-use crate::dead::{Dead, DeadTable};
+use crate::table::{ConfigurationAt, ConfigurationTable};
 use crate::trails::{Trail, Trails, path_by};
 use crate::tries::ChoiceOutcome;
 use flume_core::error::NoMemory;
@@ -30,7 +31,7 @@ pub enum Searched<A: Allocator> {
 /// Configurations before an event, without those that `seen` finds a second time.
 #[derive(Drop)]
 pub struct Level<A: Allocator> {
-    seen: DeadTable<A>,
+    seen: ConfigurationTable<A>,
     trails: Vec<usize, A>,
 }
 
@@ -50,7 +51,8 @@ enum Expanded {
     NoMemory,
 }
 
-/// Choices that lead past all the events. It gives up once more than `limit` steps were followed.
+/// Choices that lead past all the events. It gives up once more than `limit` configurations were
+/// entered by steps.
 pub fn find_path<T: Copy + Eq + Drop, A: Allocator + Copy>(
     alloc: A,
     start: Configuration<A>,
@@ -60,14 +62,16 @@ pub fn find_path<T: Copy + Eq + Drop, A: Allocator + Copy>(
     ensures nothing { (place : ℕ) → result ≡ Searched.Nothing place
         → IsDeadEnd T.eq events.now 0 start }
 {
-    let mut trails = Trails::new(alloc);
+    let Some(mut trails) = Trails::new(alloc, events) else {
+        return Searched::NoMemory;
+    };
     let mut level = Level::new(alloc);
     if !level.add(start, 0, 0) {
         return Searched::NoMemory;
     }
     for place in 0..=events.len() {
         match level.advance(alloc, events, &mut trails, limit) {
-            Advanced::Next(next) if next.seen.dead.is_empty() => return Searched::Nothing(place),
+            Advanced::Next(next) if next.seen.list.is_empty() => return Searched::Nothing(place),
             Advanced::Next(next) => level = next,
             Advanced::AtEnd(trail) => return path_result(path_by(
                 alloc,
@@ -111,7 +115,8 @@ impl<A: Allocator + Copy> Level<A> {
         }
     }
 
-    /// The level after the next event, or an empty one if more than `limit` steps were followed.
+    /// The level after the next event, or an empty one if more than `limit` configurations were
+    /// entered by steps.
     pub fn next<T: Copy + Eq + Drop>(
         &mut self,
         alloc: A,
@@ -127,21 +132,21 @@ impl<A: Allocator + Copy> Level<A> {
     }
 
     /// The configurations, with their places.
-    pub fn entered(&self) -> &[Dead<A>] {
-        &self.seen.dead
+    pub fn entered(&self) -> &[ConfigurationAt<A>] {
+        &self.seen.list
     }
 
     fn new(alloc: A) -> Self
-        ensures none { result.seen.dead.items ≡ [] }
+        ensures none { result.seen.list.items ≡ [] }
     {
         Level {
-            seen: DeadTable::new(alloc),
+            seen: ConfigurationTable::new(alloc),
             trails: Vec::new(alloc),
         }
     }
 
     fn place_at(&self, index: usize) -> usize {
-        match self.seen.dead.get(index) {
+        match self.seen.list.get(index) {
             Some(one) => one.place,
             None => 0,
         }
@@ -153,15 +158,15 @@ impl<A: Allocator + Copy> Level<A> {
 
     // `false`: an allocation failed.
     fn add(&mut self, configuration: Configuration<A>, place: usize, trail: usize) -> bool
-        ensures added { IsTrue result → self.new.seen.dead.items
-            ≡ self.old.seen.dead.items ++ dead_at place configuration ∷ [] }
+        ensures added { IsTrue result → self.new.seen.list.items
+            ≡ self.old.seen.list.items ++ configuration_at place configuration ∷ [] }
     {
         self.seen.remember(configuration, place) && self.trails.push(trail).is_ok()
     }
 
     /// A copy of a configuration, if there is one.
     pub fn copy_at(&self, alloc: A, index: usize) -> Result<Option<Configuration<A>>, NoMemory> {
-        match self.seen.dead.get(index) {
+        match self.seen.list.get(index) {
             Some(one) => match one.configuration.try_clone(alloc) {
                 Some(copy) => Ok(Some(copy)),
                 None => Err(NoMemory),
@@ -184,12 +189,12 @@ impl<A: Allocator + Copy> Level<A> {
         limit: usize,
     ) -> Advanced<A>
         ensures next { (next : Level A) → result ≡ Advanced.Next next
-            → AreDead T.eq events.now next.seen.dead.items
-            → AreDead T.eq events.now self.old.seen.dead.items }
+            → AreDead T.eq events.now next.seen.list.items
+            → AreDead T.eq events.now self.old.seen.list.items }
     {
         let mut next = Level::new(alloc);
         for index in 0..usize::MAX {
-            if index >= self.seen.dead.len() {
+            if index >= self.seen.list.len() {
                 return Advanced::Next(next);
             }
             if trails.steps > limit {
@@ -212,16 +217,16 @@ impl<A: Allocator + Copy> Level<A> {
         next: &mut Level<A>,
         trails: &mut Trails<A>,
     ) -> Expanded
-        requires within { index < length self.old.seen.dead.items }
+        requires within { index < length self.old.seen.list.items }
         ensures grown { result ≡ Expanded.Whole
-            → Grows self.old.seen.dead.items self.new.seen.dead.items }
+            → Grows self.old.seen.list.items self.new.seen.list.items }
         ensures expanded { result ≡ Expanded.Whole
-            → AreExpanded T.eq events.now index self.old.seen.dead.items next.old.seen.dead.items
-            → AreExpanded T.eq events.now (index + 1) self.new.seen.dead.items
-            next.new.seen.dead.items }
+            → AreExpanded T.eq events.now index self.old.seen.list.items next.old.seen.list.items
+            → AreExpanded T.eq events.now (index + 1) self.new.seen.list.items
+            next.new.seen.list.items }
     {
         let before = self.trail_at(index);
-        let one = &self.seen.dead[index];
+        let one = &self.seen.list[index];
         let place = one.place;
         if place >= events.len() {
             return Expanded::AtEnd;
@@ -247,11 +252,11 @@ impl<A: Allocator + Copy> Level<A> {
         trails: &mut Trails<A>,
     ) -> bool
         requires within { place < length events.now }
-        ensures grown { IsTrue result → Grows self.old.seen.dead.items self.new.seen.dead.items }
+        ensures grown { IsTrue result → Grows self.old.seen.list.items self.new.seen.list.items }
         ensures grown_next { IsTrue result
-            → Grows next.old.seen.dead.items next.new.seen.dead.items }
-        ensures expanded { IsTrue result → IsExpanded T.eq events.now self.new.seen.dead.items
-            next.new.seen.dead.items (dead_at place configuration.now) }
+            → Grows next.old.seen.list.items next.new.seen.list.items }
+        ensures expanded { IsTrue result → IsExpanded T.eq events.now self.new.seen.list.items
+            next.new.seen.list.items (configuration_at place configuration.now) }
     {
         let Some(mut choices) = configuration.what_may_come(alloc, events, place) else {
             return false;
@@ -276,13 +281,15 @@ impl<A: Allocator + Copy> Level<A> {
         trails: &mut Trails<A>,
     ) -> bool
         requires within { place < length events.now }
-        ensures grown { IsTrue result → Grows self.old.seen.dead.items self.new.seen.dead.items }
+        ensures grown { IsTrue result → Grows self.old.seen.list.items self.new.seen.list.items }
         ensures grown_next { IsTrue result
-            → Grows next.old.seen.dead.items next.new.seen.dead.items }
-        ensures followed { IsTrue result → IsFollowed T.eq events.now self.new.seen.dead.items
-            next.new.seen.dead.items place configuration.now trail.choice }
+            → Grows next.old.seen.list.items next.new.seen.list.items }
+        ensures followed { IsTrue result → IsFollowed T.eq events.now self.new.seen.list.items
+            next.new.seen.list.items place configuration.now trail.choice }
     {
         match configuration.try_choice(alloc, events, place, trail.choice) {
+            ChoiceOutcome::Leads(new, at) if trails.records.are_overtaking(events, &new, at) =>
+                true,
             ChoiceOutcome::Leads(new, at) if at == place => self.enter(new, at, trail, trails),
             ChoiceOutcome::Leads(new, at) => next.enter(new, at, trail, trails),
             ChoiceOutcome::Spent => true,
@@ -297,9 +304,9 @@ impl<A: Allocator + Copy> Level<A> {
         trail: Trail,
         trails: &mut Trails<A>,
     ) -> bool
-        ensures grown { IsTrue result → Grows self.old.seen.dead.items self.new.seen.dead.items }
+        ensures grown { IsTrue result → Grows self.old.seen.list.items self.new.seen.list.items }
         ensures entered { IsTrue result
-            → Contains self.new.seen.dead.items (dead_at place configuration) }
+            → Contains self.new.seen.list.items (configuration_at place configuration) }
     {
         if self.seen.has(&configuration, place) {
             return true;

@@ -49,8 +49,8 @@ const LONG_GUESS: GuessLimit = GuessLimit {
 };
 
 /// Choices that lead past all the events, on a channel of this capacity (`None`: unbounded). If no
-/// pattern shows that there are none, a guess enters at most `limit` configurations, and then a search
-/// follows at most so many steps. Of many events, a short guess comes before the patterns.
+/// pattern shows that there are none, a guess and a search follow, limited as of `explain`. Of many
+/// events, a short guess comes before the patterns.
 pub fn find_choices<T: Copy + Eq + Drop, A: Allocator + Copy>(
     alloc: A,
     capacity: Option<usize>,

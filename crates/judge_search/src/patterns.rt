@@ -111,7 +111,10 @@ fn is_sent_first<T: Copy + Eq + Drop, A: Allocator>(
     all_returned(before, first) && is_never_sent(after, first) && is_never_sent(before, second)
 }
 
-fn is_never_sent<T: Copy + Eq + Drop, A: Allocator>(events: &[Event<T, A>], message: T) -> bool
+pub(crate) fn is_never_sent<T: Copy + Eq + Drop, A: Allocator>(
+    events: &[Event<T, A>],
+    message: T,
+) -> bool
     ensures none { IsTrue result → some_begins (T.eq message) events.now ≡ false }
 {
     last_send(events, message).is_none()

@@ -1,5 +1,7 @@
 //! By which choices the configurations of a search were entered.
+use crate::call_records::CallRecords;
 use crate::choice::Choice;
+use judge_calls::event::Event;
 use std::alloc::Allocator;
 
 /// The last choice that led to a configuration, and the trail that led before it, which is an
@@ -15,15 +17,18 @@ pub struct Trail {
 pub struct Trails<A: Allocator> {
     pub list: Vec<Trail, A>,
     pub steps: usize,
+    /// By which others are left out.
+    pub records: CallRecords<A>,
 }
 
 impl<A: Allocator + Copy> Trails<A> {
-    /// None yet.
-    pub fn new(alloc: A) -> Self {
-        Trails {
+    /// None yet. `None` if an allocation failed.
+    pub fn new<T: Copy + Eq + Drop>(alloc: A, events: &[Event<T, A>]) -> Option<Self> {
+        Some(Trails {
             list: Vec::new(alloc),
             steps: 0,
-        }
+            records: CallRecords::new(alloc, events)?,
+        })
     }
 
     /// `false`: an allocation failed.

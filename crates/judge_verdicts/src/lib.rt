@@ -22,10 +22,13 @@ use reasons::explain_input;
 use recording::judge_recording;
 use std::alloc::Allocator;
 
-/// The program that judges its input; of a recording `with_steps`, it prints steps that explain it.
+/// The program that judges its input.
 #[derive(Drop)]
 pub struct Judge {
+    /// Whether it prints steps that explain a recording.
     pub with_steps: bool,
+    /// The limit of the search for an explanation of a recording, as of `explain`.
+    pub limit: usize,
 }
 
 impl<A: Allocator + Copy> Program<A> for Judge {
@@ -35,7 +38,7 @@ impl<A: Allocator + Copy> Program<A> for Judge {
 
     fn run(&self, alloc: A, input: &[u8]) -> Result<ScriptOutput<A>, NoMemory> {
         if is_recording(input) {
-            judge_recording(alloc, self.with_steps, input)
+            judge_recording(alloc, self.with_steps, self.limit, input)
         } else {
             check_script(alloc, input)
         }

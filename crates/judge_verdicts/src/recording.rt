@@ -28,12 +28,11 @@ use judge_calls::recording::{Recording, read_recording};
 use judge_search::explain::{Checked, Explanation, check_calls, explain};
 use std::alloc::Allocator;
 
-const LIMIT: usize = 10_000_000;
-
 /// What is printed of a recording, and the status (`JudgesCalls`), if no allocation fails.
 pub(crate) fn judge_recording<A: Allocator + Copy>(
     alloc: A,
     with_steps: bool,
+    limit: usize,
     input: &[u8],
 ) -> Result<ScriptOutput<A>, NoMemory>
     ensures judges { IfOk result (λ output.
@@ -48,6 +47,7 @@ pub(crate) fn judge_recording<A: Allocator + Copy>(
         } => judge_in_turn(
             alloc,
             with_steps,
+            limit,
             first_line(input),
             capacity,
             events,
@@ -93,6 +93,7 @@ fn refuse_turn<A: Allocator + Copy>(alloc: A, place: usize) -> Result<ScriptOutp
 fn judge_in_turn<A: Allocator + Copy>(
     alloc: A,
     with_steps: bool,
+    limit: usize,
     first: &[u8],
     capacity: Option<usize>,
     events: Vec<Event<u64, A>, A>,
@@ -105,13 +106,14 @@ fn judge_in_turn<A: Allocator + Copy>(
 {
     match out_of_turn(alloc, &events)? {
         Some(place) => refuse_turn(alloc, place),
-        None => judge(alloc, with_steps, first, capacity, events, names),
+        None => judge(alloc, with_steps, limit, first, capacity, events, names),
     }
 }
 
 fn judge<A: Allocator + Copy>(
     alloc: A,
     with_steps: bool,
+    limit: usize,
     first: &[u8],
     capacity: Option<usize>,
     events: Vec<Event<u64, A>, A>,
@@ -122,8 +124,8 @@ fn judge<A: Allocator + Copy>(
         → IsRecordingOf (lines input) capacity events.items (names_of names.now)
         → JudgesCalls A with_steps input output.text.items output.status) }
 {
-    match check_calls(alloc, capacity, &events, LIMIT) {
-        Checked::Explained if with_steps => show(alloc, first, capacity, &events, names),
+    match check_calls(alloc, capacity, &events, limit) {
+        Checked::Explained if with_steps => show(alloc, limit, first, capacity, &events, names),
         Checked::Explained => {
             let mut text = Vec::new(alloc);
             text.extend_from_slice(b"correct\n")?;
@@ -141,6 +143,7 @@ fn judge<A: Allocator + Copy>(
 
 fn show<A: Allocator + Copy>(
     alloc: A,
+    limit: usize,
     first: &[u8],
     capacity: Option<usize>,
     events: &[Event<u64, A>],
@@ -154,7 +157,7 @@ fn show<A: Allocator + Copy>(
         → PrintsSteps A input output.text.items output.status
         ⊎ PrintsUndecided A input output.text.items output.status) }
 {
-    match explain(alloc, capacity, events, LIMIT) {
+    match explain(alloc, capacity, events, limit) {
         Explanation::Explained(items) => {
             let text = write_items(alloc, first, names, &items)?;
             Ok(ScriptOutput { text, status: 0 })

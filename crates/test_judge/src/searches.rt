@@ -2,7 +2,7 @@
 use judge_calls::call::{Answer, Call};
 use judge_calls::event::Event;
 use judge_search::explain::{Checked, check_calls};
-use std::alloc::AllocGlobal;
+use std::alloc::{AllocError, AllocGlobal, Global};
 use std::process::Abort;
 
 fn begins(thread: usize, call: Call<u64>) -> Event<u64> {
@@ -166,4 +166,37 @@ fn two_calls_that_make_a_step_each_take_two_configurations(rt: HostRuntime) {
     is(&rt, (None, 0), &events, Checked::GaveUp(1));
     is(&rt, (None, 1), &events, Checked::GaveUp(3));
     is(&rt, (None, 2), &events, Checked::Explained);
+}
+
+// Four threads send at once, six times. Then another one receives all in order but 21, and no more.
+fn with_one_lost(alloc: Global) -> Result<Vec<Event<u64>>, AllocError> {
+    let mut events = Vec::new(alloc);
+    for round in 0..6u64 {
+        for thread in 0..4usize {
+            events.push(begins(thread, Call::Send(4 * round + thread as u64)))?;
+        }
+        for thread in 0..4usize {
+            events.push(returns(thread, Answer::Sent))?;
+        }
+    }
+    for message in 0..24u64 {
+        if message != 21 {
+            events.push(begins(4, Call::Recv))?;
+            events.push(returns(4, Answer::Got(message)))?;
+        }
+    }
+    events.push(begins(4, Call::TryRecv))?;
+    events.push(returns(4, Answer::Empty))?;
+    Ok(events)
+}
+
+// Each four of the sends may take effect in 24 orders, six times, unless those are left out in which
+// the messages can't be received as recorded.
+#[test]
+fn a_message_is_missed_behind_many_sends_that_overlap(rt: HostRuntime) {
+    let events = match with_one_lost(rt.alloc()) {
+        Ok(events) => events,
+        Err(_) => rt.abort(),
+    };
+    is(&rt, (None, 10_000), &events, Checked::Breaks(95));
 }

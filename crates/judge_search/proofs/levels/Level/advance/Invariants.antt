@@ -4,6 +4,6 @@ use Rattle.judge_search.proofs.levels.Level.advance.Given as goal
 -- the first ones are expanded
 abbrev pub invariant-loop-index : goal.invariant-loop-index
 invariant-loop-index g l = record {
-  grown : Grows l.fn.self.seen.dead.items l.self.seen.dead.items;
-  expanded : AreExpanded g.T.PartialEq.eq l.events l.index l.self.seen.dead.items l.next.seen.dead.items;
+  grown : Grows l.fn.self.seen.list.items l.self.seen.list.items;
+  expanded : AreExpanded g.T.PartialEq.eq l.events l.index l.self.seen.list.items l.next.seen.list.items;
 }

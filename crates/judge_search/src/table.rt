@@ -1,7 +1,7 @@
 //! Remembers configurations: those of a level, or those from which a guess found nothing.
 ghost use Rattle.std.specs.Prelude.{◌≡◌, ◌++◌, ◌∷◌, [], IsTrue};
 ghost use Rattle.std.specs.List.{Contains};
-ghost use Rattle.judge_search.specs.Search.{dead_at};
+ghost use Rattle.judge_search.specs.Search.{configuration_at};
 
 use crate::configuration::{Configuration, OpenCall, ParkedReceive, Status};
 use std::alloc::Allocator;
@@ -10,25 +10,25 @@ use std::hash::{BuildHasherDefault, FoldHasher};
 
 /// A configuration before the event at this place.
 #[derive(Drop)]
-pub struct Dead<A: Allocator> {
+pub struct ConfigurationAt<A: Allocator> {
     pub configuration: Configuration<A>,
     pub place: usize,
 }
 
 /// A table by hashes, in which only the last configuration with some hash is found.
 #[derive(Drop)]
-pub struct DeadTable<A: Allocator> {
-    pub dead: Vec<Dead<A>, A>,
+pub struct ConfigurationTable<A: Allocator> {
+    pub list: Vec<ConfigurationAt<A>, A>,
     by_hash: HashMap<u64, usize, BuildHasherDefault<FoldHasher>, A>,
 }
 
-impl<A: Allocator + Copy> DeadTable<A> {
+impl<A: Allocator + Copy> ConfigurationTable<A> {
     /// An empty table.
     pub fn new(alloc: A) -> Self
-        ensures none { result.dead.items ≡ [] }
+        ensures none { result.list.items ≡ [] }
     {
-        DeadTable {
-            dead: Vec::new(alloc),
+        ConfigurationTable {
+            list: Vec::new(alloc),
             by_hash: HashMap::new(alloc),
         }
     }
@@ -36,9 +36,9 @@ impl<A: Allocator + Copy> DeadTable<A> {
     /// Whether this configuration is found at this place.
     pub fn has(&self, configuration: &Configuration<A>, place: usize) -> bool
         ensures has { IsTrue result
-            → Contains self.now.dead.items (dead_at place configuration.now) }
+            → Contains self.now.list.items (configuration_at place configuration.now) }
     {
-        if self.dead.is_empty() {
+        if self.list.is_empty() {
             return false;
         }
         match self.by_hash.get(&configuration.hash_at(place)) {
@@ -49,23 +49,23 @@ impl<A: Allocator + Copy> DeadTable<A> {
 
     fn is_at(&self, at: usize, configuration: &Configuration<A>, place: usize) -> bool
         ensures has { IsTrue result
-            → Contains self.now.dead.items (dead_at place configuration.now) }
+            → Contains self.now.list.items (configuration_at place configuration.now) }
     {
-        match self.dead.get(at) {
-            Some(dead) => dead.place == place && dead.configuration.is_same(configuration),
+        match self.list.get(at) {
+            Some(one) => one.place == place && one.configuration.is_same(configuration),
             None => false,
         }
     }
 
     /// `false`: an allocation failed.
     pub fn remember(&mut self, configuration: Configuration<A>, place: usize) -> bool
-        ensures added { IsTrue result → self.new.dead.items
-            ≡ self.old.dead.items ++ dead_at place configuration ∷ [] }
+        ensures added { IsTrue result → self.new.list.items
+            ≡ self.old.list.items ++ configuration_at place configuration ∷ [] }
     {
         let hash = configuration.hash_at(place);
-        let at = self.dead.len();
-        self.dead
-            .push(Dead {
+        let at = self.list.len();
+        self.list
+            .push(ConfigurationAt {
                 configuration,
                 place,
             })
