@@ -47,7 +47,10 @@ fn serve_file(heap: &Counting<Global>, name: &str, bytes: &[u8], output: &mut Ve
         let with_steps = name.ends_with(".steps");
         serve(
             heap,
-            &Judge { with_steps },
+            &Judge {
+                with_steps,
+                limit: 10_000_000,
+            },
             &mut input,
             output,
             &mut messages,
