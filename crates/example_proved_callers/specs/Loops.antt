@@ -3,10 +3,10 @@ use Rattle.std.specs.Prelude.{◌≡◌, ℕ, zero, suc, ◌%◌, ◌^◌, List,
 use Rattle.flume_model.specs.declared.step.Step.{Step}
 use Rattle.flume_model.specs.declared.step.Step.TheVariants.{TrySend, TryRecv}
 use Rattle.flume_model.specs.Log.{Log, Opening}
+use Rattle.flume_model.specs.Theorem.{TheoremThroughout}
 use Rattle.flume_model.specs.Conserved.{given_out}
 use Rattle.flume_state.specs.State.{State}
 use Rattle.flume_core.specs.Represents.{Represents}
-use Rattle.flume_core.specs.Headline.{Headline}
 
 -- the steps that send this many numbers, from 0 on, with a receive after each; the last one first
 abbrev pub passes : ℕ → List (Step ℕ)
@@ -18,11 +18,11 @@ abbrev pub sum_of : List ℕ → ℕ
 sum_of messages = sum_by (λ message. message) messages
 
 module _ {A : Type 0} where
-  -- these steps were made, the theorem holds of the log with them, and the sum is of what came
+  -- these steps were made, the theorem held throughout the log with them, and the sum is of what came
   pub record HasPassed (opening : Opening) (log : Log ℕ A) (count : ℕ) (s : State ℕ (Unit {0}))
       (sum : ℕ) : Type 0 where
     pub steps : Log ℕ A
     pub made : map (λ pair. pair.0) steps ≡ passes count
     pub leads : Represents opening (steps ++ log) s
-    pub headline : Headline opening (steps ++ log) s
+    pub throughout : TheoremThroughout opening (steps ++ log)
     pub sum_is : sum ≡ sum_of (given_out steps) % 2 ^ 64

@@ -7,7 +7,7 @@ ghost use Rattle.flume_core.specs.Represents.{Represents, Extends};
 ghost use Rattle.example_proved_callers.specs.Loops.{HasPassed, sum_of};
 
 use flume_core::chan::Chan;
-use flume_core::run::headline_of_steps;
+use flume_model::laws::theorem_holds_throughout;
 use flume_model::step::{Reply, Step};
 use std::alloc::Allocator;
 
@@ -21,7 +21,7 @@ pub fn pass_all<A: Allocator + Copy>(chan: &mut Chan<u64, (), A>, count: u64) ->
         chan.try_send(number);
         sum = sum.wrapping_add(receive_one(chan));
     }
-    headline_of_steps(chan);
+    theorem_holds_throughout::<u64, A>();
     sum
 }
 

@@ -8,7 +8,7 @@ use Rattle.flume_model.specs.declared.entry.Entry.{Entry}
 use Rattle.flume_model.specs.declared.entry.Mark.TheVariants.{Waiting}
 use Rattle.flume_state.specs.declared.notice.Notice.{Notice}
 use Rattle.flume_model.specs.Entries.{is_waiting, is_woken, some_wait, waiting_count, round, round_fills, round_for, round_for_fills}
-use Rattle.flume_model.specs.Entries.{all_woken, entry_of, held_by, without_ticket, again_as, again, passes_on, after_leave, leave_fills}
+use Rattle.flume_model.specs.Entries.{all_woken, entry_of, without_ticket, again_as, again, passes_on, after_leave, leave_fills}
 use Rattle.flume_model.specs.Parked.{same_notice}
 use Rattle.flume_state.specs.Receivers.{with_receiver_notice}
 use Rattle.flume_state.specs.State.{bare}
@@ -33,11 +33,6 @@ module _ {T N : Type 0} where
           → entry_of t (map bare (e ∷ es)) ≡ option_map bare (entry_of t (e ∷ es))
       by_case true same rest = simp same refl
       by_case false other rest = simp other rest
-
-  -- the message that it holds
-  pub bare_held : (found : Option (Entry T N)) → held_by (option_map bare found) ≡ held_by found
-  bare_held None = refl
-  bare_held (Some e) = refl
 
   -- the others
   pub bare_without : (t : ℕ) (es : List (Entry T N)) → map bare (without_ticket t es) ≡ without_ticket t (map bare es)

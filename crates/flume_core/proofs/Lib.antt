@@ -40,8 +40,6 @@ pub mod ClosingLemmas
 pub mod AskedMarkLemmas
 -- How a parked receiver is answered that asks again or leaves, and what that leaves.
 pub mod AskLemmas
--- The headline, of a state and the log that it represents.
-mod TheoremLemmas
 -- A list of steps that is done in part, and what one that is done leaves.
 mod TransitionLemmas
 -- Which tickets are due after each step: of one ticket, of all sends, of all parked receivers, and after what each step leaves.

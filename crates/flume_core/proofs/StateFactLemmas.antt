@@ -81,13 +81,13 @@ module _ {T A S : Type 0} where
   )
 
   -- while a receiver waits as many are woken as messages are queued
-  pub woken_cover : (o : Opening) (log : Log T A) (s : State T S) → Represents o log s → WokenCoverQueued s
+  woken_cover : (o : Opening) (log : Log T A) (s : State T S) → Represents o log s → WokenCoverQueued s
   woken_cover o log s h some =
       subst₂ (λ a b. a ≤ b) (sym (queue_len_is h)) (sym (ap woken_count h.entries_are) ∙ bare_woken s.entries)
       (covered o log h.run (waiting_at_log h ∙ some))
 
   -- queued messages and waiting receivers are bounded
-  pub queued_bounded : (o : Opening) (log : Log T A) (s : State T S) → Represents o log s → QueuedAndWaitingAreBounded s
+  queued_bounded : (o : Opening) (log : Log T A) (s : State T S) → Represents o log s → QueuedAndWaitingAreBounded s
   queued_bounded o log s h =
       let waiting : waiting_count (entries o log) ≡ waiting_count s.entries =
       sym (ap waiting_count h.entries_are) ∙ bare_waiting s.entries in

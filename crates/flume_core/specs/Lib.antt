@@ -4,4 +4,3 @@ pub mod Waiting
 pub mod NoMemoryRule
 pub mod Transitions
 pub mod StateFacts
-pub mod Headline

@@ -11,7 +11,7 @@
 //! ```
 //! The module `chan` also has the types of steps and replies: `Step`, `Kind` and `Reply`.
 //! The contract of each step says which reply comes when, what the state is then, and whose ticket
-//! becomes due. The clause `headline` of `run::run` is the theorem of the repository.
+//! becomes due. The clause `throughout` of `run::run` is the theorem of the repository.
 //!
 //! No clause counts allocations. A step that *doesn't allocate* is proved never to be refused
 //! (`possible_reply`). Scripts play it while all memory is refused: docs/FAULTS.md names them.

@@ -2,12 +2,11 @@
 ghost use Rattle.std.specs.Prelude.{◌≡◌, ◌≤◌, ◌++◌, List, vec_len, IfOk, IfErr, OnErr};
 ghost use Rattle.flume_model.specs.Log.{Log, Opening};
 ghost use Rattle.flume_model.specs.Offers.{after};
+ghost use Rattle.flume_model.specs.Theorem.{TheoremThroughout};
 ghost use Rattle.flume_model.specs.declared.step.Reply.{Reply};
 ghost use Rattle.flume_model.specs.declared.step.Step.{Step};
 ghost use Rattle.flume_state.specs.State.{State};
 ghost use Rattle.flume_core.specs.Represents.{Represents};
-ghost use Rattle.flume_model.specs.Beginnings.{HoldsThroughout};
-ghost use Rattle.flume_core.specs.Headline.{Headline, HeadlineThroughout};
 ghost use Rattle.flume_core.specs.Transitions.{AreTransitions};
 
 use crate::chan::Chan;
@@ -29,15 +28,9 @@ pub fn run<T: Drop, A: Allocator + Copy>(
     ensures steps { IfOk result (λ replies. (opening : Opening) (log : Log T A)
         → Represents opening log chan.old
         → Represents opening (after log steps.items replies.items) chan.new) }
-    ensures headline { IfOk result (λ replies. (opening : Opening) (log : Log T A)
-        → Represents opening log chan.old
-        → Headline opening (after log steps.items replies.items) chan.new) }
     ensures throughout { IfOk result (λ replies. (opening : Opening) (log : Log T A)
         → Represents opening log chan.old
-        → HoldsThroughout opening (after log steps.items replies.items)) }
-    ensures headline_throughout { IfOk result (λ replies. (opening : Opening) (log : Log T A)
-        → Represents opening log chan.old
-        → HeadlineThroughout (Unit {0}) opening (after log steps.items replies.items)) }
+        → TheoremThroughout opening (after log steps.items replies.items)) }
     ensures transitions { IfOk result (λ replies.
         AreTransitions chan.old steps.items replies.items chan.new) }
     ensures space { chan.old.space ≤ chan.new.space }
@@ -54,21 +47,6 @@ pub fn run<T: Drop, A: Allocator + Copy>(
     }
     Ok(replies)
 }
-
-/// The headline, for a caller who does the steps one by one. Does nothing.
-/// ```
-/// let mut chan: Chan<u64, ()> = Chan::new(alloc, None);
-/// chan.try_send(7);
-/// headline_of_steps(&chan);
-/// ```
-pub fn headline_of_steps<T, S, A: Allocator>(chan: &Chan<T, S, A>)
-    ensures headline { (opening : Opening) (log : Log T A)
-        → Represents opening log chan.now → Headline opening log chan.now }
-    ensures throughout { (opening : Opening) (log : Log T A)
-        → Represents opening log chan.now → HoldsThroughout opening log }
-    ensures headline_throughout { (opening : Opening) (log : Log T A)
-        → Represents opening log chan.now → HeadlineThroughout S opening log }
-{}
 
 /// Two runs in a row are one run of the steps of both. Does nothing.
 pub fn two_runs_are_one<T, S, A: Allocator>()

@@ -27,7 +27,7 @@ pub use Rattle.flume_model.specs.Asking.{
   IsWithdrawReplyOfOther,
 }
 pub use Rattle.flume_model.specs.Asking.{IsWithdrawReplyByMark, IsWithdrawReply}
-pub use Rattle.flume_model.specs.Beginnings.{Holds, HoldsThroughout}
+pub use Rattle.flume_model.specs.Theorem.{Theorem, TheoremThroughout}
 pub use Rattle.flume_model.specs.Channel.{Channel, IsFront, channel, TakesIn, TakesNoneIn, IsAccepted, IsBlocked, has_ticket}
 pub use Rattle.flume_model.specs.Conserved.{held_messages, gives, given_out, IsConserved, Conserved, messages_in}
 pub use Rattle.flume_model.specs.Counts.{is_over, senders, receivers, senders_after, receivers_after}

@@ -33,5 +33,5 @@ pub mod fills
 pub mod users
 -- What setting the capacity leaves of a run.
 pub mod ResizeLemmas
--- What holds of a run holds at each moment of it.
-pub mod BeginningLemmas
+-- The theorem holds of a run, and so it held at each moment of it.
+pub mod TheoremLemmas

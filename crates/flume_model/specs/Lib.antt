@@ -15,6 +15,6 @@ pub mod WakeRule
 pub mod Conserved
 pub mod Producers
 pub mod AllBlock
-pub mod Beginnings
+pub mod Theorem
 pub mod Resized
 pub mod EqualSteps

@@ -10,7 +10,7 @@ ghost use Rattle.flume_model.specs.Limits.{IsAtCapacity};
 ghost use Rattle.flume_model.specs.Line.{line, capacity, queue_len, blocked, next_ticket, is_live};
 ghost use Rattle.flume_model.specs.Offers.{offers, kept, hand_outs};
 ghost use Rattle.flume_model.specs.Laws.{InOrder, Rising};
-ghost use Rattle.flume_model.specs.Beginnings.{HoldsThroughout};
+ghost use Rattle.flume_model.specs.Theorem.{TheoremThroughout};
 ghost use Rattle.flume_model.specs.EqualSteps.{equal_steps};
 
 pub mod capacity;
@@ -26,10 +26,10 @@ pub fn hands_out_in_order<T, A: Allocator>()
         → IsRun opening log → InOrder (entries opening log) log }
 {}
 
-/// At each moment of a run, what holds of every run held: the order, and both bounds.
-pub fn what_holds_held_throughout<T, A: Allocator>()
+/// The theorem held at each moment of a run.
+pub fn theorem_holds_throughout<T, A: Allocator>()
     ensures law { (opening : Opening) (log : Log T A)
-        → IsRun opening log → HoldsThroughout opening log }
+        → IsRun opening log → TheoremThroughout opening log }
 {}
 
 /// In each run, each ticket is issued once: those of the offers rise, and are below the next one.

@@ -1,4 +1,4 @@
--- Each step leads on; at the end the headline holds of the run.
+-- Each step leads on, so the theorem held throughout.
 use Rattle.std.proofs.Common.{◌≡◌, [], ◌∷◌, refl, map, ◌∙◌, ap, rules}
 use Rattle.flume_model.specs.declared.step.Step.TheVariants.{TrySend, TryRecv}
 use Rattle.example_proved_callers.specs.Loops.{passes}
@@ -32,7 +32,7 @@ returns g c = record {
         steps = all.0;
         made = all.1 ∙ ap passes last;
         leads = all.2;
-        headline = c.headline_of_steps.ensures.headline o _ all.2;
+        throughout = c.theorem_holds_throughout.ensures.law o _ all.2.run;
         sum_is = all.3;
       };
 }

@@ -1,8 +1,7 @@
 -- What a list of steps leaves.
 use Rattle.std.proofs.Common.{◌≡◌, [], rules}
-use Rattle.flume_core.proofs.TheoremLemmas.{headline}
 use Rattle.flume_core.proofs.TransitionLemmas.{none_done, one_more, all_done, extended, spacious}
-use Rattle.flume_model.proofs.BeginningLemmas.{throughout}
+use Rattle.flume_model.proofs.TheoremLemmas.{throughout}
 use Rattle.flume_core.proofs.run.run.Goals as goal
 
 pub returns-clause-transitions : goal.returns-clause-transitions
@@ -16,14 +15,8 @@ returns-clause-space g c = spacious _ _ _ _ (returns-clause-transitions g c)
 pub returns-clause-steps : goal.returns-clause-steps
 returns-clause-steps g c o log h = extended _ _ _ _ (returns-clause-transitions g c) o log h
 
-pub returns-clause-headline : goal.returns-clause-headline
-returns-clause-headline g c o log h = headline o _ _ (returns-clause-steps g c o log h)
-
 pub returns-clause-throughout : goal.returns-clause-throughout
 returns-clause-throughout g c o log h = throughout o _ (returns-clause-steps g c o log h).run
-
-pub returns-clause-headline_throughout : goal.returns-clause-headline_throughout
-returns-clause-headline_throughout g c o log h before is s represents = headline o before s represents
 
 pub loop-step-init : goal.loop-step-init
 loop-step-init g c = record {
