@@ -73,6 +73,7 @@ pub mod signal;
 mod single;
 mod task;
 pub mod traced;
+mod watching;
 mod weak;
 
 pub use builder::{Builder, on};
@@ -96,4 +97,5 @@ pub use runtime::Runtime;
 pub use select::Selector;
 pub use sender::Sender;
 pub use shared::Waits;
+pub use watching::watch;
 pub use weak::WeakSender;
