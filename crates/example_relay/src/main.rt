@@ -1,6 +1,6 @@
 //! Readings of two sensors become one stream, up to a stop message. The high ones are forwarded as
-//! alarms. As a chain this would be `select`, `take_until`, `filter`, `map` and `forward`. Here it is
-//! two types with a `poll`, `Merged` and `Relay`, whose functions the prover reads one by one.
+//! alarms. As a chain this would be `select`, `take_until`, `filter`, `map` and `forward`. Here it
+//! is two types with a `poll`, `Merged` and `Relay`, whose functions the prover reads one by one.
 #![tactic(auto)]
 
 use flume::polled::{RecvStream, SendSink};
@@ -19,10 +19,8 @@ fn main(rt: HostRuntime) -> io::Result<()> {
     let (outside, from_outside) = flume::on(rt).bounded(2)?;
     let (stop, stopped) = flume::on(rt).bounded(1)?;
     let (alarm, alarms) = flume::on(rt).bounded(1)?;
-    let relay = thread::spawn(
-        &rt,
-        move || run(&rt, (from_inside, from_outside), stopped, alarm),
-    )?;
+    let sensors = (from_inside, from_outside);
+    let relay = thread::spawn(&rt, move || run(&rt, sensors, stopped, alarm))?;
     let (one, other) = (inside.clone()?, outside.clone()?);
     let first = thread::spawn(&rt, move || measure(&one, 61))?;
     let second = thread::spawn(&rt, move || measure(&other, 66))?;
