@@ -18,7 +18,8 @@ abbrev pub sum_of : List ℕ → ℕ
 sum_of messages = sum_by (λ message. message) messages
 
 module _ {A : Type 0} where
-  -- these steps were made, the theorem held throughout the log with them, and the sum is of what came
+  -- these steps were made, the theorem held throughout the log with them, and the sum is of what
+  -- came
   pub record HasPassed (opening : Opening) (log : Log ℕ A) (count : ℕ) (s : State ℕ (Unit {0}))
       (sum : ℕ) : Type 0 where
     pub steps : Log ℕ A

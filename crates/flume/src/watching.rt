@@ -5,10 +5,11 @@ use flume_calls::description::Description;
 use std::time::Duration;
 use std::{io, thread};
 
-/// Starts a thread that looks at a channel at this interval, as `WeakSender::describe` does. It calls
-/// `show` with what it found if a call waits there and nothing has changed since the look before;
-/// once, until something changes. Messages that came and went between two looks aren't seen. The
-/// thread ends once no sender lives, and is cut off when `main` returns. Err: it wasn't started.
+/// Starts a thread that looks at a channel at this interval, by `WeakSender::describe`. It calls `show`
+/// with what it found if that counts a blocked send or a waiting receive and equals what the look
+/// before found; then not again until a look has found something else. What changed back between two
+/// looks isn't seen. The thread ends at the first look that finds no sender, and is cut off when
+/// `main` returns. Err: it wasn't started, and `show` was dropped.
 /// ```
 /// let (tx, rx) = flume::on(rt).bounded::<u64>(4)?;
 /// let (found, shown) = flume::on(rt).unbounded()?;

@@ -14,11 +14,13 @@ module _ {T A : Type 0} where
   pub record Theorem (opening : Opening) (log : Log T A) : Type 0 where
     -- the j-th message handed out is the message of the j-th offer that wasn't withdrawn
     pub in_order : InOrder (entries opening log) log
-    -- the queued messages are those of the offers that come next
+    -- the queued messages are those of the offers that come next: true of any log, by what `queue`
+    -- is; that a `Chan` has this queue is `Represents`
     pub queue_is_front :
         queue opening log
         ≡ messages (take (queue_len opening log) (drop (hand_outs log) (kept log)))
-    -- the blocked ones are the rest of these offers, until both sides have disconnected
+    -- the blocked ones are the rest of these offers, until both sides have disconnected: true of any
+    -- log too, and of a `Chan` by `Represents`
     pub blocked_are_rest :
         is_over log ≡ false
         → blocked opening log ≡ drop (queue_len opening log) (drop (hand_outs log) (kept log))
@@ -28,7 +30,8 @@ module _ {T A : Type 0} where
     pub replies_lawful : IsRun opening log
     -- while a receiver waits, at least as many stand woken as messages are queued
     pub woken_cover : Covered opening log
-    -- queued messages and waiting receivers are within the greatest capacity or the peak
+    -- queued messages and waiting receivers together are within the greater of the greatest capacity
+    -- and the peak
     pub queue_bounded : Bounded opening log
 
   -- the log began with this one; what came later is before it, since the newest come first
