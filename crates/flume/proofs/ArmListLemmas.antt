@@ -1,6 +1,6 @@
 -- The arms of a list of ends, one for each so far.
-use Rattle.std.proofs.Common.{◌≡◌, ℕ, ◌+◌, ◌<◌, List, [], ◌∷◌, ◌++◌, map, length, take, get_or, refl, sym, ap, ◌∙◌}
-use Rattle.std.proofs.lemmas.List.{append-nil, map-append, take_more}
+use Rattle.std.proofs.Common.{◌≡◌, List, [], ◌∷◌, ◌++◌, map, length, refl, sym, ap, ◌∙◌}
+use Rattle.std.proofs.lemmas.List.{append-nil}
 
 module _ {X Y Z : Type 0} (f : X → Z) (g : Y → Z) where
   -- one arm more, for the first pair of those that are left
@@ -17,18 +17,3 @@ module _ {X Y Z : Type 0} (f : X → Z) (g : Y → Z) where
       → length left ≡ 0 → map f arms ≡ all
   no_pair_left arms [] all so_far none = sym (append-nil (map f arms)) ∙ so_far
   no_pair_left arms (pair ∷ left) all so_far none = absurd (cc none)
-
-  -- one arm more, for the next of the ends
-  pub next_arm : (arms : List X) (arm : X) (ends : List Y) (i : ℕ) (d : Y) → i < length ends → map f arms ≡ map g (take i ends)
-      → f arm ≡ g (get_or ends i d) → map f (arms ++ arm ∷ []) ≡ map g (take (i + 1) ends)
-  next_arm arms arm ends i d below so_far same =
-      map-append f arms (arm ∷ []) ∙ (ap (λ list. list ++ f arm ∷ []) so_far ∙ (ap (λ z. map g (take i ends) ++ z ∷ []) same
-      ∙ (sym (map-append g (take i ends) (get_or ends i d ∷ [])) ∙ ap (map g) (sym (take_more ends i d below)))))
-
-module _ {X Z : Type 0} (f : X → Z) where
-  -- the same of what the arms have of the ends
-  pub next_same : (arms : List X) (arm : X) (ends : List Z) (i : ℕ) (d : Z) → i < length ends → map f arms ≡ take i ends
-      → f arm ≡ get_or ends i d → map f (arms ++ arm ∷ []) ≡ take (i + 1) ends
-  next_same arms arm ends i d below so_far same =
-      map-append f arms (arm ∷ []) ∙ (ap (λ list. list ++ f arm ∷ []) so_far
-      ∙ (ap (λ z. take i ends ++ z ∷ []) same ∙ sym (take_more ends i d below)))

@@ -11,7 +11,7 @@ use crate::select::Selector;
 use crate::select::arms::{Arms, ArmsOn};
 use crate::select::each::Each;
 use crate::select::error::EachError;
-use crate::select::recv_arm::RecvArm;
+use crate::select::receive_list::ReceiveList;
 use crate::select::send_arm::SendArm;
 use crate::sender::Sender;
 use crate::shared::Waits;
@@ -24,7 +24,7 @@ use std::num::NonZeroUsize;
 pub type WithReceives<'a, V, L, T, F, R: Waits, A: Allocator + Copy> = Selector<
     'a,
     V,
-    Each<L, RecvArm<'a, T, (), R, A>, F, R, A>,
+    Each<L, ReceiveList<'a, T, R, A>, F, R, A>,
     A,
 >;
 
@@ -32,7 +32,7 @@ pub type WithReceives<'a, V, L, T, F, R: Waits, A: Allocator + Copy> = Selector<
 pub type WithSends<'a, V, L, T, F, R: Waits, A: Allocator + Copy> = Selector<
     'a,
     V,
-    Each<L, SendArm<'a, T, (), R, A>, F, R, A>,
+    Each<L, Vec<SendArm<'a, T, (), R, A>, A>, F, R, A>,
     A,
 >;
 
@@ -56,9 +56,8 @@ impl<'a, V, L: Arms<V, A> + Drop, A: Allocator + Copy> Selector<'a, V, L, A> {
         L: ArmsOn<R, V, A>,
         F: FnOnce(usize, Result<T, RecvError>) -> V + Drop,
         ensures before { IfOk result (λ more. more.arms.before ≡ self.entry.arms) }
-        ensures channels { IfOk result (λ more.
-            map (λ arm. arm.arm.receiver.now) more.arms.arms.items ≡ receivers.now) }
-        ensures unstarted { IfOk result (λ more. map (λ arm. arm.arm.state) more.arms.arms.items
+        ensures channels { IfOk result (λ more. more.arms.arms.receivers.now ≡ receivers.now) }
+        ensures unstarted { IfOk result (λ more. more.arms.arms.states.items
             ≡ map (λ _. ReceiveState.Unstarted) receivers.now) }
         ensures mapper { IfOk result (λ more. more.arms.mapper ≡ mapper) }
         ensures count { IfOk result (λ more. non_zero_usize_get more.arms.count
@@ -71,8 +70,21 @@ impl<'a, V, L: Arms<V, A> + Drop, A: Allocator + Copy> Selector<'a, V, L, A> {
         let count = NonZeroUsize::new(arms).ok_or(EachError::NoArm)?;
         let first = receivers.first().map(|r| (r.shared().rt, r.shared().alloc));
         let (rt, alloc) = first.or_else(|| self.arms.last()).ok_or(EachError::NoArm)?;
-        let arms = receive_arms(receivers, alloc)?;
-        Ok(self.with_each(arms, mapper, count, (rt, alloc)))
+        let arms = ReceiveList::new(receivers, alloc)?;
+        Ok(Selector {
+            arms: Each {
+                before: self.arms,
+                arms,
+                mapper,
+                count,
+                rt,
+                alloc,
+            },
+            start: self.start,
+            deadline: self.deadline,
+            value: PhantomData,
+            alloc: PhantomData,
+        })
     }
 
     /// As `recv_each`, with an arm as of `send` for each pair. An error drops the messages too.
@@ -111,24 +123,7 @@ impl<'a, V, L: Arms<V, A> + Drop, A: Allocator + Copy> Selector<'a, V, L, A> {
             .map(|pair| (pair.0.shared().rt, pair.0.shared().alloc));
         let (rt, alloc) = first.or_else(|| self.arms.last()).ok_or(EachError::NoArm)?;
         let arms = send_arms(sends, alloc)?;
-        Ok(self.with_each(arms, mapper, count, (rt, alloc)))
-    }
-
-    fn with_each<C: Drop, F: Drop, R: Waits>(
-        self,
-        arms: Vec<C, A>,
-        mapper: F,
-        count: NonZeroUsize,
-        channel: (R, A),
-    ) -> Selector<'a, V, Each<L, C, F, R, A>, A>
-        ensures before { result.arms.before ≡ self.entry.arms }
-        ensures arms { result.arms.arms ≡ arms }
-        ensures mapper { result.arms.mapper ≡ mapper }
-        ensures count { result.arms.count ≡ count }
-        ensures start { result.start ≡ self.entry.start }
-    {
-        let (rt, alloc) = channel;
-        Selector {
+        Ok(Selector {
             arms: Each {
                 before: self.arms,
                 arms,
@@ -141,24 +136,8 @@ impl<'a, V, L: Arms<V, A> + Drop, A: Allocator + Copy> Selector<'a, V, L, A> {
             deadline: self.deadline,
             value: PhantomData,
             alloc: PhantomData,
-        }
+        })
     }
-}
-
-fn receive_arms<'a, T: Drop, R: Waits, A: Allocator + Copy>(
-    receivers: &'a [Receiver<T, R, A>],
-    alloc: A,
-) -> Result<Vec<RecvArm<'a, T, (), R, A>, A>, AllocError>
-    ensures channels { IfOk result (λ arms.
-        map (λ arm. arm.arm.receiver.now) arms.items ≡ receivers.now) }
-    ensures unstarted { IfOk result (λ arms. map (λ arm. arm.arm.state) arms.items
-        ≡ map (λ _. ReceiveState.Unstarted) receivers.now) }
-{
-    let mut arms = Vec::with_capacity(alloc, receivers.len())?;
-    for receiver in receivers {
-        arms.push_reserved(RecvArm::new(receiver, ()));
-    }
-    Ok(arms)
 }
 
 fn send_arms<'a, T: Drop, R: Waits, A: Allocator + Copy>(

@@ -62,18 +62,38 @@ pub trait Arm<V, A: Allocator + Copy>: ArmTurns<A> {
         ensures maps { IfSome result (maps (Self.mapper self)) };
 }
 
-/// An arm of a list, whose arms share a mapper, which also gets the arm's place.
-pub trait ListedArm<V, F, A: Allocator + Copy>: ArmTurns<A> {
+/// The arms of a list, which share a mapper, which also gets an arm's place in the list.
+pub trait ArmList<V, F, A: Allocator + Copy> {
     ghost can_map: { F → Type 0 };
 
     ghost maps: { F → ℕ → V → Type 0 };
 
+    ghost has_completed: { Self → ℕ → Type 0 };
+
     ghost answers: { Self → F → ℕ → V → Type 0 };
 
-    /// As `Arm::value`, with the arm's place.
-    fn listed_value(self, place: usize, mapper: F) -> Option<V>
+    ghost turns: { Bool → Self → ℕ → ArmNext → Self → Type 0 };
+
+    ghost withdraws: { Self → ℕ → Self → Type 0 };
+
+    /// The greatest of their numbers of checks.
+    fn checks(&self) -> u32;
+
+    /// The turn of the arm at this place, if there is one. In the selector it has this number.
+    fn turn(&mut self, place: usize, number: usize, parker: Option<&Arc<Parker, A>>) -> ArmNext
+        ensures does { turns (is_some parker.entry) self.old place result self.new }
+        ensures completed { result ≡ ArmNext.Completed → has_completed self.new place };
+
+    /// Withdraws the arm at this place, if there is one.
+    fn withdraw(&mut self, place: usize)
+        ensures does { withdraws self.old place self.new }
+        ensures completed { (other : ℕ) → has_completed self.old other
+            → has_completed self.new other };
+
+    /// As `Arm::value`, of the arm at this place; `None` also if there is no such arm.
+    fn value(self, place: usize, mapper: F) -> Option<V>
         requires can_map { can_map mapper }
-        ensures completed { Self.has_completed self ↔ IsSome result }
+        ensures completed { has_completed self place ↔ IsSome result }
         ensures answers { IfSome result (answers self mapper place) }
         ensures maps { IfSome result (maps mapper place) };
 }

@@ -1,10 +1,9 @@
 //! The arms of a list.
 ghost use Rattle.std.specs.Prelude.{◌≡◌, ◌<◌};
 ghost use Rattle.std.specs.NonZero.{non_zero_usize_get};
-ghost use Rattle.flume_calls.specs.declared.gates.select.ArmNext.TheVariants.{NoMemory};
-ghost use Rattle.flume.specs.ArmLists.{ByPlace, HoldsAt, ChangesAt};
+ghost use Rattle.flume.specs.ArmLists.{ByPlace};
 
-use crate::select::arms::{Arms, ArmsOn, AtLeastOneArm, ListedArm};
+use crate::select::arms::{ArmList, Arms, ArmsOn, AtLeastOneArm};
 use crate::shared::Waits;
 use crate::signal::Parker;
 use flume_calls::gates::ArmNext;
@@ -17,7 +16,7 @@ use std::sync::Arc;
 #[derive(Drop)]
 pub struct Each<L, C, F, R: Waits, A: Allocator + Copy = Global> {
     pub(crate) before: L,
-    pub(crate) arms: Vec<C, A>,
+    pub(crate) arms: C,
     pub(crate) mapper: F,
     // With those before.
     pub(crate) count: NonZeroUsize,
@@ -28,7 +27,7 @@ pub struct Each<L, C, F, R: Waits, A: Allocator + Copy = Global> {
 impl<V, A: Allocator + Copy, L, C, F: Drop, R: Waits> Arms<V, A> for Each<L, C, F, R, A>
 where
     L: Arms<V, A> + Drop,
-    C: ListedArm<V, F, A> + Drop,
+    C: ArmList<V, F, A> + Drop,
 {
     type Mappers = (L::Mappers, F, NonZeroUsize);
 
@@ -44,45 +43,36 @@ where
 
     ghost has_completed = { λ list.
         ByPlace (L.count (L.mappers list.before)) (L.has_completed list.before)
-        (HoldsAt C.has_completed list.arms.items) };
+        (C.has_completed list.arms) };
 
     ghost answers = { λ list arm value.
         ByPlace (L.count (L.mappers list.before)) (λ n. L.answers list.before n value)
-        (λ place. HoldsAt (λ listed. C.answers listed list.mapper place value)
-        list.arms.items place) arm };
+        (λ place. C.answers list.arms list.mapper place value) arm };
 
     ghost turns = { λ parks old arm new next.
         ByPlace (L.count (L.mappers old.before))
         (λ n. L.turns parks old.before n new.before next × (new.arms ≡ old.arms))
-        (λ place. (new.before ≡ old.before) × ChangesAt (λ a b. C.turns parks a next b)
-        (next ≡ NoMemory) old.arms.items place new.arms.items) arm };
+        (λ place. (new.before ≡ old.before) × C.turns parks old.arms place next new.arms) arm };
 
     ghost withdraws = { λ old arm new.
         ByPlace (L.count (L.mappers old.before))
         (λ n. L.withdraws old.before n new.before × (new.arms ≡ old.arms))
-        (λ place. (new.before ≡ old.before) × ChangesAt C.withdraws (Unit {0})
-        old.arms.items place new.arms.items) arm };
+        (λ place. (new.before ≡ old.before) × C.withdraws old.arms place new.arms) arm };
 
     fn count(&self) -> usize {
         self.count.get()
     }
 
     fn checks(&self) -> u32 {
-        let mut most = self.before.checks();
-        for arm in &self.arms {
-            most = max(most, arm.checks());
-        }
-        most
+        max(self.before.checks(), self.arms.checks())
     }
 
     fn turn(&mut self, arm: usize, parker: Option<&Arc<Parker, A>>) -> ArmNext {
         let before = self.before.count();
         if arm < before {
-            return self.before.turn(arm, parker);
-        }
-        match self.arms.get_mut(arm - before) {
-            Some(listed) => listed.turn(arm, parker),
-            None => ArmNext::NoMemory,
+            self.before.turn(arm, parker)
+        } else {
+            self.arms.turn(arm - before, arm, parker)
         }
     }
 
@@ -90,34 +80,31 @@ where
         let before = self.before.count();
         if arm < before {
             self.before.withdraw(arm);
-        } else if let Some(listed) = self.arms.get_mut(arm - before) {
-            listed.withdraw();
+        } else {
+            self.arms.withdraw(arm - before);
         }
     }
 
     fn value(self, arm: usize) -> Option<V> {
         let Each {
             before,
-            mut arms,
+            arms,
             mapper,
             ..
         } = self;
         let first = before.count();
         if arm < first {
-            return before.value(arm);
+            before.value(arm)
+        } else {
+            arms.value(arm - first, mapper)
         }
-        let place = arm - first;
-        if arms.len() <= place {
-            return None;
-        }
-        arms.swap_remove(place).listed_value(place, mapper)
     }
 }
 
 impl<V, A: Allocator + Copy, L, C, F: Drop, R: Waits> AtLeastOneArm<V, A> for Each<L, C, F, R, A>
 where
     L: Arms<V, A> + Drop,
-    C: ListedArm<V, F, A> + Drop,
+    C: ArmList<V, F, A> + Drop,
 {
     type Runtime = R;
 
@@ -137,7 +124,7 @@ where
 impl<V, A: Allocator + Copy, L, C, F: Drop, R: Waits> ArmsOn<R, V, A> for Each<L, C, F, R, A>
 where
     L: Arms<V, A> + Drop,
-    C: ListedArm<V, F, A> + Drop,
+    C: ArmList<V, F, A> + Drop,
 {
     fn last(&self) -> Option<(R, A)> {
         Some((self.rt, self.alloc))

@@ -3,10 +3,10 @@ ghost use Rattle.std.specs.Prelude.{◌≡◌, IsSome};
 ghost use Rattle.flume.specs.declared.select.receive.ReceiveState.{ReceiveState};
 ghost use Rattle.flume.specs.ArmStates.{CompletesReceive, receive_result};
 ghost use Rattle.flume.specs.ArmTurns.{ReceiveTurn, WithdrawsReceive};
-ghost use Rattle.flume.specs.Selections.{CanMap, Maps, MapsResult, CanMapEach, MapsEach};
+ghost use Rattle.flume.specs.Selections.{CanMap, Maps, MapsResult};
 
 use crate::receiver::Receiver;
-use crate::select::arms::{Arm, ArmTurns, ListedArm};
+use crate::select::arms::{Arm, ArmTurns};
 use crate::select::receive::ReceiveArm;
 use crate::shared::Waits;
 use crate::signal::Parker;
@@ -86,25 +86,6 @@ where
         let RecvArm { arm, mapper } = self;
         match arm.state.into_result() {
             Some(result) => Some(mapper(result)),
-            None => None,
-        }
-    }
-}
-
-impl<V, T: Drop, F, R: Waits, A: Allocator + Copy> ListedArm<V, F, A> for RecvArm<'_, T, (), R, A>
-where
-    F: FnOnce(usize, Result<T, RecvError>) -> V + Drop,
-{
-    ghost can_map = { CanMapEach F.pre CompletesReceive };
-
-    ghost maps = { MapsEach F.post CompletesReceive };
-
-    ghost answers = { λ arm mapper place. MapsResult (λ f. F.post f place) mapper
-        (receive_result arm.arm.state) };
-
-    fn listed_value(self, place: usize, mapper: F) -> Option<V> {
-        match self.arm.state.into_result() {
-            Some(result) => Some(mapper(place, result)),
             None => None,
         }
     }
