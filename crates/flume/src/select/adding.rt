@@ -12,11 +12,11 @@ use crate::select::arms::{Arms, ArmsOn};
 use crate::select::each::Each;
 use crate::select::error::EachError;
 use crate::select::receive_list::ReceiveList;
-use crate::select::send_arm::SendArm;
+use crate::select::send_list::SendList;
 use crate::sender::Sender;
 use crate::shared::Waits;
 use flume_core::error::{RecvError, SendError};
-use std::alloc::{AllocError, Allocator};
+use std::alloc::Allocator;
 use std::marker::PhantomData;
 use std::num::NonZeroUsize;
 
@@ -32,7 +32,7 @@ pub type WithReceives<'a, V, L, T, F, R: Waits, A: Allocator + Copy> = Selector<
 pub type WithSends<'a, V, L, T, F, R: Waits, A: Allocator + Copy> = Selector<
     'a,
     V,
-    Each<L, Vec<SendArm<'a, T, (), R, A>, A>, F, R, A>,
+    Each<L, SendList<'a, T, R, A>, F, R, A>,
     A,
 >;
 
@@ -105,9 +105,10 @@ impl<'a, V, L: Arms<V, A> + Drop, A: Allocator + Copy> Selector<'a, V, L, A> {
         L: ArmsOn<R, V, A>,
         F: FnOnce(usize, Result<(), SendError<T>>) -> V + Drop,
         ensures before { IfOk result (λ more. more.arms.before ≡ self.entry.arms) }
-        ensures channels { IfOk result (λ more. map (λ arm. arm.arm.sender.now) more.arms.arms.items
+        ensures channels { IfOk result (λ more.
+            map (λ arm. arm.sender.now) more.arms.arms.arms.items
             ≡ map (λ pair. pair.0.now) sends.entry.items) }
-        ensures unstarted { IfOk result (λ more. map (λ arm. arm.arm.state) more.arms.arms.items
+        ensures unstarted { IfOk result (λ more. map (λ arm. arm.state) more.arms.arms.arms.items
             ≡ map (λ pair. SendState.Unstarted pair.1) sends.entry.items) }
         ensures mapper { IfOk result (λ more. more.arms.mapper ≡ mapper) }
         ensures count { IfOk result (λ more. non_zero_usize_get more.arms.count
@@ -122,7 +123,7 @@ impl<'a, V, L: Arms<V, A> + Drop, A: Allocator + Copy> Selector<'a, V, L, A> {
             .first()
             .map(|pair| (pair.0.shared().rt, pair.0.shared().alloc));
         let (rt, alloc) = first.or_else(|| self.arms.last()).ok_or(EachError::NoArm)?;
-        let arms = send_arms(sends, alloc)?;
+        let arms = SendList::new(sends, alloc)?;
         Ok(Selector {
             arms: Each {
                 before: self.arms,
@@ -138,20 +139,4 @@ impl<'a, V, L: Arms<V, A> + Drop, A: Allocator + Copy> Selector<'a, V, L, A> {
             alloc: PhantomData,
         })
     }
-}
-
-fn send_arms<'a, T: Drop, R: Waits, A: Allocator + Copy>(
-    sends: Vec<(&'a Sender<T, R, A>, T), A>,
-    alloc: A,
-) -> Result<Vec<SendArm<'a, T, (), R, A>, A>, AllocError>
-    ensures channels { IfOk result (λ arms. map (λ arm. arm.arm.sender.now) arms.items
-        ≡ map (λ pair. pair.0.now) sends.entry.items) }
-    ensures unstarted { IfOk result (λ arms. map (λ arm. arm.arm.state) arms.items
-        ≡ map (λ pair. SendState.Unstarted pair.1) sends.entry.items) }
-{
-    let mut arms = Vec::with_capacity(alloc, sends.len())?;
-    for (sender, message) in sends {
-        arms.push_reserved(SendArm::new(sender, message, ()));
-    }
-    Ok(arms)
 }

@@ -13,7 +13,7 @@ use std::sync::Arc;
 pub trait ArmTurns<A: Allocator + Copy> {
     type Runtime: Waits;
 
-    /// `()` if the arm is one of a list.
+    /// What maps its result to a value.
     type Mapper;
 
     ghost mapper: { Self → Self.Mapper };

@@ -1,13 +1,11 @@
 //! An arm that sends, of a sender without a trace.
 ghost use Rattle.std.specs.Prelude.{◌≡◌, IsSome};
-ghost use Rattle.flume_calls.specs.declared.gates.select.ArmNext.TheVariants.{NoMemory};
 ghost use Rattle.flume.specs.declared.select.send.SendState.{SendState};
-ghost use Rattle.flume.specs.ArmLists.{HoldsAt, ChangesAt};
 ghost use Rattle.flume.specs.ArmStates.{CompletesSend, send_result};
 ghost use Rattle.flume.specs.ArmTurns.{SendTurn, WithdrawsSend};
-ghost use Rattle.flume.specs.Selections.{CanMap, Maps, MapsResult, CanMapEach, MapsEach};
+ghost use Rattle.flume.specs.Selections.{CanMap, Maps, MapsResult};
 
-use crate::select::arms::{Arm, ArmList, ArmTurns};
+use crate::select::arms::{Arm, ArmTurns};
 use crate::select::send::OfferArm;
 use crate::sender::Sender;
 use crate::shared::Waits;
@@ -16,7 +14,6 @@ use flume_calls::gates::ArmNext;
 use flume_core::error::SendError;
 use flume_keeper::{NoParty, NoTrace};
 use std::alloc::{Allocator, Global};
-use std::cmp::max;
 use std::sync::Arc;
 
 /// An arm that sends: `Selector::send`.
@@ -89,63 +86,6 @@ where
         let SendArm { arm, mapper } = self;
         match arm.state.into_result() {
             Some(result) => Some(mapper(result)),
-            None => None,
-        }
-    }
-}
-
-// The arms of `Selector::send_each`.
-impl<V, T: Drop, F, R: Waits, A: Allocator + Copy> ArmList<V, F, A>
-    for Vec<SendArm<'_, T, (), R, A>, A>
-where
-    F: FnOnce(usize, Result<(), SendError<T>>) -> V + Drop,
-{
-    ghost can_map = { CanMapEach F.pre CompletesSend };
-
-    ghost maps = { MapsEach F.post CompletesSend };
-
-    ghost has_completed = { λ list.
-        HoldsAt (λ arm. IsSome (send_result arm.arm.state)) list.items };
-
-    ghost answers = { λ list mapper place value.
-        HoldsAt (λ arm. MapsResult (λ f. F.post f place) mapper (send_result arm.arm.state) value)
-        list.items place };
-
-    ghost turns = { λ parks old place next new.
-        ChangesAt (λ before after. SendTurn A parks before.arm.state next after.arm.state)
-        (next ≡ NoMemory) old.items place new.items };
-
-    ghost withdraws = { λ old place new.
-        ChangesAt (λ before after. WithdrawsSend A before.arm.state after.arm.state) (Unit {0})
-        old.items place new.items };
-
-    fn checks(&self) -> u32 {
-        let mut most = 0;
-        for arm in self {
-            most = max(most, ArmTurns::checks(arm));
-        }
-        most
-    }
-
-    fn turn(&mut self, place: usize, number: usize, parker: Option<&Arc<Parker, A>>) -> ArmNext {
-        match self.get_mut(place) {
-            Some(arm) => arm.arm.turn(number, parker),
-            None => ArmNext::NoMemory,
-        }
-    }
-
-    fn withdraw(&mut self, place: usize) {
-        if let Some(arm) = self.get_mut(place) {
-            arm.arm.withdraw();
-        }
-    }
-
-    fn value(mut self, place: usize, mapper: F) -> Option<V> {
-        if self.len() <= place {
-            return None;
-        }
-        match self.swap_remove(place).arm.state.into_result() {
-            Some(result) => Some(mapper(place, result)),
             None => None,
         }
     }
