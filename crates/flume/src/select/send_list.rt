@@ -26,10 +26,7 @@ pub struct SendList<'a, T, R: Waits, A: Allocator + Copy = Global> {
 }
 
 impl<'a, T: Drop, R: Waits, A: Allocator + Copy> SendList<'a, T, R, A> {
-    pub(crate) fn new(
-        sends: Vec<(&'a Sender<T, R, A>, T), A>,
-        alloc: A,
-    ) -> Result<Self, AllocError>
+    pub(crate) fn new(sends: Vec<(&'a Sender<T, R, A>, T), A>, alloc: A) -> Result<Self, AllocError>
         ensures channels { IfOk result (λ list. map (λ arm. arm.sender.now) list.arms.items
             ≡ map (λ pair. pair.0.now) sends.entry.items) }
         ensures unstarted { IfOk result (λ list. map (λ arm. arm.state) list.arms.items
