@@ -105,7 +105,9 @@ impl<R: Runtime> Room<R> {
         }
         Ok(missed)
     }
+}
 
+impl<R: Waits> Room<R> {
     /// The stop is tried first, and then the members in the order in which they came in.
     fn next_event(&self) -> io::Result<Event> {
         let arms = Selector::new().recv(&self.stop, |_| Event::Stopped);

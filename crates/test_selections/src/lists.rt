@@ -1,8 +1,10 @@
 //! Selections that only try their arms, that begin with a random arm, and that have lists of arms.
 use crate::fixtures::{channel, is, unwrap};
 use flume::Selector;
+use flume::select::SelectError;
 use rand::rngs::SmallRng;
 use rand_core::SeedableRng;
+use std::time::Duration;
 use test_support::arms::HowLong::Tried;
 use test_support::selections::{Winner, receive, send, send_or_receive};
 
@@ -52,6 +54,22 @@ fn of_a_list_of_receivers_the_first_with_a_message_wins_behind_an_arm_before(rt:
         let arms = unwrap(&rt, arms.map_err(|_| ()));
         is(&rt, unwrap(&rt, arms.try_wait()), won);
     }
+}
+
+#[test]
+fn a_list_of_receivers_whose_time_is_over_waits_in_none_of_the_channels(rt: HostRuntime) {
+    let (tx, rx) = channel(rt, rt.alloc(), None);
+    let (other, other_rx) = channel(rt, rt.alloc(), None);
+    let list = unwrap(&rt, vec![in rt.alloc(); rx, other_rx]);
+    let arms = Selector::new().recv_each(&list, |place, answer| (place, answer.ok()));
+    let arms = unwrap(&rt, arms.map_err(|_| ()));
+    let won: Result<(usize, Option<u64>), _> = arms.wait_timeout(Duration::from_millis(1));
+    is(&rt, won, Err(SelectError::Timeout));
+    is(
+        &rt,
+        (tx.waiting_receivers(), other.waiting_receivers()),
+        (0, 0),
+    );
 }
 
 #[test]
