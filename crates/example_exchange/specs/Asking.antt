@@ -1,8 +1,8 @@
 -- What clients ask a server, and what it replies to each.
 use Rattle.std.specs.Prelude.{ℕ, ◌/◌, Bool, List, [], map}
-use Rattle.flume_party.specs.Parties.{PartyState}
-use Rattle.flume_actions.specs.Actions.{Action}
-use Rattle.flume_actions.specs.Callers.{HasMadeCalls}
+use Rattle.flume.specs.Parties.{PartyState}
+use Rattle.flume.specs.Actions.{Action}
+use Rattle.flume.specs.Callers.{HasMadeCalls}
 use Rattle.flume_laws.specs.Forwards.{HasServed}
 use Rattle.example_exchange.specs.declared.asking.Question.{Question}
 

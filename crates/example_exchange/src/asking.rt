@@ -1,7 +1,7 @@
 //! Requests and replies: two clients ask one server. Each has a channel of its own for the replies.
 ghost use Rattle.std.specs.Prelude.{◌≡◌, true, false, not, [], ◌∷◌, IfOk};
-ghost use Rattle.flume_party.specs.Parties.{party_of};
-ghost use Rattle.flume_actions.specs.Callers.{HasMadeCalls};
+ghost use Rattle.flume.specs.Parties.{party_of};
+ghost use Rattle.flume.specs.Callers.{HasMadeCalls};
 ghost use Rattle.flume_laws.specs.Forwards.{replies_to};
 ghost use Rattle.example_exchange.specs.Asking.{HasAsked, HasAnswered, is_of_second, half_of};
 ghost use Rattle.example_exchange.specs.Halving.{halves};

@@ -1,7 +1,7 @@
 //! Two threads send through one channel, and two others receive.
 ghost use Rattle.std.specs.Prelude.{◌≡◌, ℕ, List, [], ◌∷◌, IfOk};
-ghost use Rattle.flume_party.specs.Interleavings.{Interleaving};
-ghost use Rattle.flume_actions.specs.Callers.{HasMadeCalls};
+ghost use Rattle.flume_laws.specs.Interleavings.{Interleaving};
+ghost use Rattle.flume.specs.Callers.{HasMadeCalls};
 ghost use Rattle.flume_laws.specs.Together.{AreRouted};
 
 use crate::threads::{Received, receive_all, send_all};

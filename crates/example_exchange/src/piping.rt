@@ -1,6 +1,6 @@
 //! Two threads in a row: one sends numbers, one halves them into a second channel.
 ghost use Rattle.std.specs.Prelude.{◌≡◌, [], IfOk};
-ghost use Rattle.flume_actions.specs.Callers.{HasMadeCalls};
+ghost use Rattle.flume.specs.Callers.{HasMadeCalls};
 ghost use Rattle.flume_laws.specs.Forwards.{HasForwarded};
 ghost use Rattle.example_exchange.specs.Halving.{half, halves};
 

@@ -1,6 +1,6 @@
 //! A pool: two threads take numbers from one channel, and send the half of each into another.
 ghost use Rattle.std.specs.Prelude.{◌≡◌, [], IfOk, IsPermutation};
-ghost use Rattle.flume_actions.specs.Callers.{HasMadeCalls};
+ghost use Rattle.flume.specs.Callers.{HasMadeCalls};
 ghost use Rattle.flume_laws.specs.Forwards.{HasForwarded};
 ghost use Rattle.example_exchange.specs.Halving.{half, halves};
 

@@ -1,6 +1,6 @@
 //! What a thread does with an end of a channel, and with a party of its own.
 ghost use Rattle.std.specs.Prelude.{[], IfOk};
-ghost use Rattle.flume_actions.specs.Callers.{HasMadeCalls};
+ghost use Rattle.flume.specs.Callers.{HasMadeCalls};
 ghost use Rattle.flume_laws.specs.Forwards.{HasForwarded};
 ghost use Rattle.example_exchange.specs.Halving.{half};
 

@@ -8,7 +8,7 @@ use Rattle.flume_model.specs.declared.step.Reply.{Reply}
 use Rattle.flume_model.specs.declared.step.Reply.TheVariants.{Returned, Got, Drained}
 use Rattle.flume_model.specs.Log.{Log}
 use Rattle.flume_model.specs.Conserved.{gives, given_out}
-use Rattle.flume_core.specs.PossibleReply.{PossibleReply}
+use Rattle.flume.specs.PossibleReply.{PossibleReply}
 use Rattle.example_proved_callers.specs.Loops.{passes, sum_of}
 
 -- the steps for one number more

@@ -6,9 +6,9 @@ use Rattle.flume_model.specs.declared.step.Step.TheVariants.{TryRecv, Recv, With
 use Rattle.flume_model.specs.declared.step.Reply.{Reply}
 use Rattle.flume_model.specs.declared.step.Reply.TheVariants.{Got, Empty, Gone}
 use Rattle.flume_model.specs.declared.step.Reply.TheVariants.{Parked as ParkedUnder}
-use Rattle.flume_state.specs.State.{State}
-use Rattle.flume_core.specs.declared.error.RecvTimeoutError.{RecvTimeoutError}
-use Rattle.flume_core.specs.declared.error.RecvTimeoutError.TheVariants.{Timeout}
+use Rattle.flume.specs.State.{State}
+use Rattle.flume.specs.declared.error.RecvTimeoutError.{RecvTimeoutError}
+use Rattle.flume.specs.declared.error.RecvTimeoutError.TheVariants.{Timeout}
 use Rattle.flume_calls.specs.declared.calls.receive.RecvNext.{RecvNext}
 use Rattle.flume_calls.specs.declared.calls.receive.RecvNext.TheVariants.{Done, NeedSignal, Park}
 use Rattle.flume_calls.specs.declared.calls.receive.RecvNext.TheVariants.{Refused}

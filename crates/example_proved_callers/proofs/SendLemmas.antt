@@ -7,10 +7,10 @@ use Rattle.flume_model.specs.declared.step.Step.TheVariants.{TrySend, Send, With
 use Rattle.flume_model.specs.declared.step.Reply.{Reply}
 use Rattle.flume_model.specs.declared.step.Reply.TheVariants.{Sent, Full, Pending, Returned}
 use Rattle.flume_model.specs.Log.{Log}
-use Rattle.flume_state.specs.State.{State}
-use Rattle.flume_core.specs.Represents.{IsReachable}
-use Rattle.flume_core.specs.declared.error.SendTimeoutError.{SendTimeoutError}
-use Rattle.flume_core.specs.declared.error.SendTimeoutError.TheVariants.{Timeout}
+use Rattle.flume.specs.State.{State}
+use Rattle.flume.specs.Represents.{IsReachable}
+use Rattle.flume.specs.declared.error.SendTimeoutError.{SendTimeoutError}
+use Rattle.flume.specs.declared.error.SendTimeoutError.TheVariants.{Timeout}
 use Rattle.flume_calls.specs.declared.calls.send.SendNext.{SendNext}
 use Rattle.flume_calls.specs.declared.calls.send.SendNext.TheVariants.{Done, NeedSignal, Park}
 use Rattle.flume_calls.specs.SendTurns.{after_try_send, after_send, after_parked_send}

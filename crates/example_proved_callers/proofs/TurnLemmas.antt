@@ -4,7 +4,7 @@ use Rattle.std.proofs.lemmas.List.{append_assoc}
 use Rattle.flume_model.specs.declared.step.Step.{Step}
 use Rattle.flume_model.specs.declared.step.Reply.{Reply}
 use Rattle.flume_model.specs.Log.{Log}
-use Rattle.flume_state.specs.State.{State}
+use Rattle.flume.specs.State.{State}
 use Rattle.flume_calls.specs.AtRest.{IsCallAtRest}
 use Rattle.flume_calls.specs.Turns.{Turned}
 use Rattle.example_proved_callers.specs.LocalSends.{Leads, Makes, Others}

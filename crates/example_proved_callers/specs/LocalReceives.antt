@@ -5,7 +5,7 @@ use Rattle.flume_model.specs.declared.step.Step.{Step}
 use Rattle.flume_model.specs.declared.step.Step.TheVariants.{TryRecv, Recv, Poll, Withdraw}
 use Rattle.flume_model.specs.declared.step.Reply.TheVariants.{Got, Empty, Parked, Gone}
 use Rattle.flume_model.specs.Log.{Log}
-use Rattle.flume_state.specs.State.{State}
+use Rattle.flume.specs.State.{State}
 use Rattle.example_proved_callers.specs.LocalSends.{Leads}
 
 module _ {T : Type 0} where

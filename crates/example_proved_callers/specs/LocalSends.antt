@@ -6,8 +6,8 @@ use Rattle.flume_model.specs.declared.step.Reply.{Reply}
 use Rattle.flume_model.specs.declared.step.Reply.TheVariants.{Sent, Full, Pending, Accepted}
 use Rattle.flume_model.specs.declared.step.Reply.TheVariants.{NoTicket, Returned}
 use Rattle.flume_model.specs.Log.{Log, Opening}
-use Rattle.flume_state.specs.State.{State}
-use Rattle.flume_core.specs.Represents.{Represents}
+use Rattle.flume.specs.State.{State}
+use Rattle.flume.specs.Represents.{Represents}
 
 module _ {T S A : Type 0} where
   -- a log of the state before is one of the state after with these steps, the last one first

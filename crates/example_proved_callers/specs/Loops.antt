@@ -5,8 +5,8 @@ use Rattle.flume_model.specs.declared.step.Step.TheVariants.{TrySend, TryRecv}
 use Rattle.flume_model.specs.Log.{Log, Opening}
 use Rattle.flume_model.specs.Theorem.{TheoremThroughout}
 use Rattle.flume_model.specs.Conserved.{given_out}
-use Rattle.flume_state.specs.State.{State}
-use Rattle.flume_core.specs.Represents.{Represents}
+use Rattle.flume.specs.State.{State}
+use Rattle.flume.specs.Represents.{Represents}
 
 -- the steps that send this many numbers, from 0 on, with a receive after each; the last one first
 abbrev pub passes : ℕ → List (Step ℕ)

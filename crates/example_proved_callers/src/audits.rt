@@ -1,12 +1,12 @@
 //! What a settled audit says.
 ghost use Rattle.std.specs.Prelude.{◌≡◌, IfSome, length, sum_by};
-ghost use Rattle.flume_audit.specs.Settled.{IsSettled};
+ghost use Rattle.flume.specs.Settled.{IsSettled};
 
-use flume_audit::audit::Audit;
-use flume_audit::book::Book;
-use flume_audit::closed::Closed;
-use flume_audit::seat::Seat;
-use flume_audit::weigh::Ones;
+use flume::audit::Audit;
+use flume::book::Book;
+use flume::closed::Closed;
+use flume::seat::Seat;
+use flume::weigh::Ones;
 use flume_model::step::{Reply, Step};
 use std::alloc::Allocator;
 use std::sync::ledger::Ledger;

@@ -1,10 +1,11 @@
 //! A gate over a channel of one owner, and callers that conclude what became of a message.
 ghost use Rattle.std.specs.Prelude.{◌≡◌, Ok, Err};
-ghost use Rattle.flume_core.specs.declared.error.SendTimeoutError.TheVariants.{Timeout};
-ghost use Rattle.flume_core.specs.declared.error.RecvTimeoutError.TheVariants.{Timeout as Late};
+ghost use Rattle.flume.specs.declared.error.SendTimeoutError.TheVariants.{Timeout};
+ghost use Rattle.flume.specs.declared.error.RecvTimeoutError.TheVariants.{Timeout as Late};
 ghost use Rattle.example_proved_callers.specs.LocalSends.{Others, IsSent, IsTakenBack};
 ghost use Rattle.example_proved_callers.specs.LocalReceives.{IsReceived, IsGivenUp};
 
+use flume::error::{RecvTimeoutError, SendTimeoutError};
 use flume_calls::calls::{
     AgainReceive, AgainSend, FirstReceive, FirstSend, ParkReceive, ParkSend, RecvCall, RecvNext,
     SendCall, SendNext,
@@ -13,7 +14,6 @@ use flume_calls::due::Bell;
 use flume_calls::gates::{RecvGate, SendGate, recv_over, send_over};
 use flume_calls::locked::Locked;
 use flume_calls::single::EndStep;
-use flume_core::error::{RecvTimeoutError, SendTimeoutError};
 use flume_model::step::Kind;
 use std::alloc::Allocator;
 use std::sync::Wait;

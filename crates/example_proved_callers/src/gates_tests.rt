@@ -1,6 +1,6 @@
 //! Each outcome of the calls of `gates`, of which another makes a step while they wait.
 use crate::gates::{LocalGate, Other, receive_through, send_through};
-use flume_core::error::{RecvTimeoutError, SendTimeoutError};
+use flume::error::{RecvTimeoutError, SendTimeoutError};
 
 #[test]
 fn a_blocked_send_is_taken_while_it_waits(rt: HostRuntime) {

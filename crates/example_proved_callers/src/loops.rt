@@ -3,10 +3,10 @@ ghost use Rattle.std.specs.Prelude.{◌≡◌, ℕ};
 ghost use Rattle.flume_model.specs.declared.step.Reply.{Reply};
 ghost use Rattle.flume_model.specs.Log.{Log, Opening};
 ghost use Rattle.flume_model.specs.Conserved.{gives};
-ghost use Rattle.flume_core.specs.Represents.{Represents, Extends};
+ghost use Rattle.flume.specs.Represents.{Represents, Extends};
 ghost use Rattle.example_proved_callers.specs.Loops.{HasPassed, sum_of};
 
-use flume_core::chan::Chan;
+use flume::chan::Chan;
 use flume_model::laws::theorem_holds_throughout;
 use flume_model::step::{Reply, Step};
 use std::alloc::Allocator;

@@ -1,8 +1,8 @@
 -- What threads sent before another one sent.
 use Rattle.std.specs.Prelude.{ℕ, List, []}
-use Rattle.flume_party.specs.Parties.{PartyState, Merged}
-use Rattle.flume_actions.specs.Actions.{Action}
-use Rattle.flume_actions.specs.Callers.{HasMadeCalls}
+use Rattle.flume.specs.Parties.{PartyState, Merged}
+use Rattle.flume.specs.Actions.{Action}
+use Rattle.flume.specs.Callers.{HasMadeCalls}
 
 -- Two parties sent a list each. Then a third one took in both, and sent the last list.
 pub record HasSentInPhases {A : Type 0} (party party' : PartyState (Action ℕ A))

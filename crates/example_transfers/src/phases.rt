@@ -3,8 +3,8 @@
 //! Who takes in a party knows that its calls have been made. So what it sends then comes, in the
 //! one line of messages, after all that the other sent. Meanwhile another thread receives.
 ghost use Rattle.std.specs.Prelude.{◌≡◌, ℕ, List, [], ◌++◌, IfOk};
-ghost use Rattle.flume_party.specs.Interleavings.{Interleaving};
-ghost use Rattle.flume_actions.specs.Callers.{HasMadeCalls};
+ghost use Rattle.flume_laws.specs.Interleavings.{Interleaving};
+ghost use Rattle.flume.specs.Callers.{HasMadeCalls};
 ghost use Rattle.example_transfers.specs.Phases.{HasSentInPhases};
 
 use flume::traced::{ChannelName, ChannelParty, TracedReceiver, TracedSender, UnopenedChannel};

@@ -3,7 +3,7 @@
 //! So messages are left. A law says that they were sent last, and how many there may be. A send
 //! waits for room, and goes on if there is some, or gives up after a time.
 ghost use Rattle.std.specs.Prelude.{◌≡◌, ◌≤◌, ◌++◌, ℕ, List, [], length, Some, IfOk};
-ghost use Rattle.flume_actions.specs.Callers.{HasMadeCalls};
+ghost use Rattle.flume.specs.Callers.{HasMadeCalls};
 ghost use Rattle.flume_laws.specs.Offered.{WereOffered};
 
 use flume::traced::{ChannelName, ChannelParty, TracedReceiver, TracedSender, UnopenedChannel};

@@ -29,3 +29,27 @@ pub mod TracedSends
 pub mod EndedCalls
 pub mod TracedPolls
 pub mod TracedArms
+-- Of other crates, what clauses of this one cite: a caller needn't list those crates.
+pub use Rattle.flume_model.specs.Channel
+pub use Rattle.flume_model.specs.Entries
+pub use Rattle.flume_model.specs.Line
+pub use Rattle.flume_model.specs.Log
+pub use Rattle.flume_model.specs.Parked
+pub use Rattle.flume_model.specs.Replies
+pub use Rattle.flume_state.specs.State
+pub use Rattle.flume_core.specs.PossibleReply
+pub use Rattle.flume_core.specs.Represents
+pub use Rattle.flume_calls.specs.ManySends
+pub use Rattle.flume_calls.specs.Polls
+pub use Rattle.flume_calls.specs.ReceiveGates
+pub use Rattle.flume_calls.specs.ReceiveTurns
+pub use Rattle.flume_calls.specs.SelectGates
+pub use Rattle.flume_calls.specs.SendGates
+pub use Rattle.flume_calls.specs.SendTurns
+pub use Rattle.flume_calls.specs.Singles
+pub use Rattle.flume_audit.specs.Settled
+pub use Rattle.flume_deadline.specs.Deadlines
+pub use Rattle.flume_party.specs.Parties
+pub use Rattle.flume_actions.specs.Actions
+pub use Rattle.flume_actions.specs.Callers
+pub use Rattle.flume_actions.specs.Calls

@@ -68,3 +68,5 @@ pub mod ConfirmLemmas
 pub mod ForwardLemmas
 -- What callers cite: clients that ask one server, and what it replies to each.
 pub mod ReplyLemmas
+-- What callers cite: calls one after the other.
+pub use Rattle.flume_actions.proofs.CallerLemmas

@@ -1,19 +1,19 @@
 -- The recorded answer for each result of a call.
 use Rattle.std.specs.Prelude.{ℕ, Bool, true, false, Result, Ok, Err, Option, Some, None}
-use Rattle.flume_core.specs.declared.error.CapacityError.{CapacityError}
-use Rattle.flume_core.specs.declared.error.CapacityError.TheVariants as capacity_error
-use Rattle.flume_core.specs.declared.error.TrySendError.{TrySendError}
-use Rattle.flume_core.specs.declared.error.TrySendError.TheVariants as try_send
-use Rattle.flume_core.specs.declared.error.SendError.{SendError}
-use Rattle.flume_core.specs.declared.error.SendError.TheVariants as send
-use Rattle.flume_core.specs.declared.error.SendTimeoutError.{SendTimeoutError}
-use Rattle.flume_core.specs.declared.error.SendTimeoutError.TheVariants as send_timeout
-use Rattle.flume_core.specs.declared.error.TryRecvError.{TryRecvError}
-use Rattle.flume_core.specs.declared.error.TryRecvError.TheVariants as try_recv
-use Rattle.flume_core.specs.declared.error.RecvError.{RecvError}
-use Rattle.flume_core.specs.declared.error.RecvError.TheVariants as recv
-use Rattle.flume_core.specs.declared.error.RecvTimeoutError.{RecvTimeoutError}
-use Rattle.flume_core.specs.declared.error.RecvTimeoutError.TheVariants as recv_timeout
+use Rattle.flume.specs.declared.error.CapacityError.{CapacityError}
+use Rattle.flume.specs.declared.error.CapacityError.TheVariants as capacity_error
+use Rattle.flume.specs.declared.error.TrySendError.{TrySendError}
+use Rattle.flume.specs.declared.error.TrySendError.TheVariants as try_send
+use Rattle.flume.specs.declared.error.SendError.{SendError}
+use Rattle.flume.specs.declared.error.SendError.TheVariants as send
+use Rattle.flume.specs.declared.error.SendTimeoutError.{SendTimeoutError}
+use Rattle.flume.specs.declared.error.SendTimeoutError.TheVariants as send_timeout
+use Rattle.flume.specs.declared.error.TryRecvError.{TryRecvError}
+use Rattle.flume.specs.declared.error.TryRecvError.TheVariants as try_recv
+use Rattle.flume.specs.declared.error.RecvError.{RecvError}
+use Rattle.flume.specs.declared.error.RecvError.TheVariants as recv
+use Rattle.flume.specs.declared.error.RecvTimeoutError.{RecvTimeoutError}
+use Rattle.flume.specs.declared.error.RecvTimeoutError.TheVariants as recv_timeout
 use Rattle.judge_recorder.specs.declared.slot.FutureAnswer.{FutureAnswer}
 use Rattle.judge_recorder.specs.declared.slot.FutureAnswer.TheVariants as future
 use Rattle.judge_calls.specs.declared.call.Answer.{Answer}

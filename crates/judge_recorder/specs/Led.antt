@@ -1,7 +1,7 @@
 -- The stage of a call that corresponds to what a turn led to.
 use Rattle.std.specs.Prelude.{Bool, true, false, Ok, Err}
-use Rattle.flume_core.specs.declared.error.RecvTimeoutError.TheVariants as receive
-use Rattle.flume_core.specs.declared.error.SendTimeoutError.TheVariants as send
+use Rattle.flume.specs.declared.error.RecvTimeoutError.TheVariants as receive
+use Rattle.flume.specs.declared.error.SendTimeoutError.TheVariants as send
 use Rattle.flume_calls.specs.declared.calls.send.SendNext.{SendNext}
 use Rattle.flume_calls.specs.declared.calls.send.SendNext.TheVariants as sending
 use Rattle.flume_calls.specs.declared.calls.receive.RecvNext.{RecvNext}

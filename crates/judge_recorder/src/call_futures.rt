@@ -1,7 +1,7 @@
 //! The futures of a send and of a receive.
 ghost use Rattle.std.specs.Prelude.{◌≡◌, Bool, true, false, Option, None};
 ghost use Rattle.flume.specs.OwnedEnds.{end_of};
-ghost use Rattle.flume_model.specs.declared.step.Kind.TheVariants.{Plain};
+ghost use Rattle.flume.specs.declared.step.Kind.TheVariants.{Plain};
 ghost use Rattle.flume_calls.specs.declared.polled.send.PolledSend.{PolledSend};
 ghost use Rattle.judge_recorder.specs.declared.slot.FutureAnswer.{FutureAnswer};
 ghost use Rattle.judge_recorder.specs.Answers.{future_send_answer, future_receive_answer};

@@ -9,8 +9,8 @@ ghost use Rattle.judge_recorder.specs.Records.{Records};
 
 use crate::recorder::Recorder;
 use flume::error::NoMemory;
+use flume::step::Step;
 use flume::{Drain, Receiver, Waits};
-use flume_model::step::Step;
 use judge_calls::call::{Answer, Call, Messages};
 use std::alloc::{Allocator, Global};
 use std::collections::VecDeque;

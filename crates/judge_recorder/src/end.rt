@@ -4,8 +4,8 @@ ghost use Rattle.flume.specs.CallSteps.{HasReplied};
 ghost use Rattle.flume.specs.LockedTurns.{HasMade};
 
 use flume::error::CapacityError;
+use flume::step::{Reply, Step};
 use flume::{Receiver, Sender, Waits};
-use flume_model::step::{Reply, Step};
 use std::alloc::Allocator;
 
 /// A sender or a receiver, with its own methods.

@@ -6,8 +6,8 @@ ghost use Rattle.judge_recorder.specs.Records.{Records, is_complete};
 
 use crate::recorder::Recorder;
 use flume::error::NoMemory;
+use flume::step::{Reply, Step};
 use flume::{Receiver, Sender, Waits, WeakSender};
-use flume_model::step::{Reply, Step};
 use judge_calls::call::{Answer, Call};
 use std::alloc::{AllocError, Allocator};
 

@@ -1,10 +1,10 @@
 //! Laws that check the definitions of `judge_calls` against those of `flume_calls`.
 ghost use Rattle.std.specs.Prelude.{◌≡◌, ℕ, Bool, true, false, Some, Result, Ok};
-ghost use Rattle.flume_core.specs.declared.error.RecvTimeoutError.{RecvTimeoutError};
-ghost use Rattle.flume_model.specs.Channel.{Channel};
-ghost use Rattle.flume_model.specs.Replies.{IsReply};
-ghost use Rattle.flume_model.specs.declared.step.Reply.{Reply};
-ghost use Rattle.flume_model.specs.declared.step.Step.TheVariants.{PollSend};
+ghost use Rattle.flume.specs.declared.error.RecvTimeoutError.{RecvTimeoutError};
+ghost use Rattle.flume.specs.Channel.{Channel};
+ghost use Rattle.flume.specs.Replies.{IsReply};
+ghost use Rattle.flume.specs.declared.step.Reply.{Reply};
+ghost use Rattle.flume.specs.declared.step.Step.TheVariants.{PollSend};
 ghost use Rattle.flume_calls.specs.SendTurns.{after_try_send, after_send, after_parked_send};
 ghost use Rattle.flume_calls.specs.SendTurns.{step_of_parked_send};
 ghost use Rattle.flume_calls.specs.ReceiveTurns.{after_try_recv, after_recv, after_parked_receive};

@@ -9,7 +9,7 @@ use crate::answers::set_capacity_answer;
 use crate::end::End;
 use crate::recorder::Recorder;
 use flume::error::CapacityError;
-use flume_model::step::{Reply, Step};
+use flume::step::{Reply, Step};
 use judge_calls::call::{Answer, Call};
 use std::alloc::Allocator;
 

@@ -1,5 +1,5 @@
 //! Explanations as text. What can't be had fails the test here: a `?` costs the prover a second.
-use flume_model::step::Reply;
+use flume::step::Reply;
 use flume_script::reading::{opening_of, step_of};
 use judge_calls::answer_texts::answer_of;
 use judge_calls::call_texts::call_of;

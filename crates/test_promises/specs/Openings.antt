@@ -1,10 +1,10 @@
 -- What became of the one message that was offered in a new channel.
 use Rattle.std.specs.Prelude.{ℕ, Option, Result, [], ◌∷◌}
-use Rattle.flume_model.specs.declared.step.Step.TheVariants.{TrySend}
-use Rattle.flume_model.specs.declared.step.Reply.{Reply}
-use Rattle.flume_core.specs.declared.error.TrySendError.{TrySendError}
-use Rattle.flume_calls.specs.SendTurns.{after_try_send}
-use Rattle.flume_actions.specs.Actions.{IsWhole}
+use Rattle.flume.specs.declared.step.Step.TheVariants.{TrySend}
+use Rattle.flume.specs.declared.step.Reply.{Reply}
+use Rattle.flume.specs.declared.error.TrySendError.{TrySendError}
+use Rattle.flume.specs.SendTurns.{after_try_send}
+use Rattle.flume.specs.Actions.{IsWhole}
 use Rattle.flume.specs.CallSteps.{try_send_as_turn}
 
 -- The message was offered, with this result. The offer and its reply are all that sent or received

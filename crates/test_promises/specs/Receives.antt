@@ -1,9 +1,9 @@
 -- What a party did that received twice.
 use Rattle.std.specs.Prelude.{Result}
-use Rattle.flume_core.specs.declared.error.RecvTimeoutError.{RecvTimeoutError}
-use Rattle.flume_party.specs.Parties.{PartyState}
-use Rattle.flume_actions.specs.Actions.{Action}
-use Rattle.flume_actions.specs.Calls.{HasReceived}
+use Rattle.flume.specs.declared.error.RecvTimeoutError.{RecvTimeoutError}
+use Rattle.flume.specs.Parties.{PartyState}
+use Rattle.flume.specs.Actions.{Action}
+use Rattle.flume.specs.Calls.{HasReceived}
 
 -- the party made two receives, one after the other, with these results
 pub record HasReceivedTwo {T A : Type 0} (old new : PartyState (Action T A))

@@ -1,6 +1,6 @@
 //! Channels that are opened, and parties that are split.
 ghost use Rattle.std.specs.Prelude.{◌≡◌, [], IfOk, Some};
-ghost use Rattle.flume_party.specs.Parties.{party_of};
+ghost use Rattle.flume.specs.Parties.{party_of};
 ghost use Rattle.test_promises.specs.Openings.{HasOffered};
 
 use flume::error::NoMemory;

@@ -1,10 +1,10 @@
 //! Receives from channels with a trace.
 ghost use Rattle.std.specs.Prelude.{◌≢◌, [], ◌++◌, Err, option_to_list};
-ghost use Rattle.flume_model.specs.declared.step.Step.TheVariants as step;
-ghost use Rattle.flume_calls.specs.ReceiveTurns.{after_try_recv};
-ghost use Rattle.flume_actions.specs.Calls.{HasCalled, HasReceived, HasStepped};
-ghost use Rattle.flume_actions.specs.Calls.{got_by, drained_by};
-ghost use Rattle.flume_actions.specs.Callers.{HasMadeCalls};
+ghost use Rattle.flume.specs.declared.step.Step.TheVariants as step;
+ghost use Rattle.flume.specs.ReceiveTurns.{after_try_recv};
+ghost use Rattle.flume.specs.Calls.{HasCalled, HasReceived, HasStepped};
+ghost use Rattle.flume.specs.Calls.{got_by, drained_by};
+ghost use Rattle.flume.specs.Callers.{HasMadeCalls};
 ghost use Rattle.flume_laws.specs.Offered.{WereOffered};
 ghost use Rattle.flume.specs.CallSteps.{try_receive_as_turn, receive_as_timed};
 ghost use Rattle.flume.specs.Iterators.{after_drain};

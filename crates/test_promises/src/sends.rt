@@ -1,8 +1,8 @@
 //! Sends into channels with a trace.
 ghost use Rattle.std.specs.Prelude.{◌≡◌, true, false, [], Err};
-ghost use Rattle.flume_model.specs.declared.step.Step.TheVariants.{TrySend};
-ghost use Rattle.flume_calls.specs.SendTurns.{after_try_send};
-ghost use Rattle.flume_actions.specs.Calls.{HasCalled, HasSent, HasStepped, sent_by};
+ghost use Rattle.flume.specs.declared.step.Step.TheVariants.{TrySend};
+ghost use Rattle.flume.specs.SendTurns.{after_try_send};
+ghost use Rattle.flume.specs.Calls.{HasCalled, HasSent, HasStepped, sent_by};
 ghost use Rattle.flume.specs.CallSteps.{try_send_as_turn, send_as_timed};
 
 use flume::traced::{ChannelName, ChannelParty, TracedSender};

@@ -1,6 +1,6 @@
 use Rattle.std.proofs.Common.{refl, arith}
 use Rattle.std.proofs.lemmas.Grind.{common_steps}
-use Rattle.flume_actions.proofs.CallerLemmas.{and_call}
+use Rattle.flume_laws.proofs.CallerLemmas.{and_call}
 use Rattle.example_exchange.proofs.asking.ask_all.Goals as goal
 
 pub loop-number-preserved : goal.loop-number-preserved

@@ -1,5 +1,5 @@
 use Rattle.std.proofs.Common.{rules, []}
-use Rattle.flume_actions.specs.Callers.{HasMadeCalls}
+use Rattle.flume.specs.Callers.{HasMadeCalls}
 use Rattle.flume_laws.proofs.TakeInLemmas.{split_off, only_received, take_in_sender}
 use Rattle.flume_laws.proofs.TakeInLemmas.{take_in_receiver, exchanged, two_in_order, two_routed}
 use Rattle.example_exchange.proofs.exchanging.exchange_named.Goals as goal

@@ -1,5 +1,5 @@
 use Rattle.std.proofs.Common.{[], take}
-use Rattle.flume_actions.specs.Callers.{HasMadeCalls}
+use Rattle.flume.specs.Callers.{HasMadeCalls}
 use Rattle.example_exchange.proofs.threads.send_all.Given as goal
 
 -- the items so far were sent

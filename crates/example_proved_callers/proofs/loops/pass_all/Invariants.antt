@@ -1,7 +1,7 @@
 use Rattle.std.proofs.Common.{◌≡◌, ℕ, ◌%◌, ◌^◌, ◌++◌, map}
 use Rattle.flume_model.specs.Log.{Log, Opening}
 use Rattle.flume_model.specs.Conserved.{given_out}
-use Rattle.flume_core.specs.Represents.{Represents}
+use Rattle.flume.specs.Represents.{Represents}
 use Rattle.example_proved_callers.specs.Loops.{passes, sum_of}
 use Rattle.example_proved_callers.proofs.loops.pass_all.Given as goal
 

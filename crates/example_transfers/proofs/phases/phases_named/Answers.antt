@@ -1,5 +1,5 @@
 use Rattle.std.proofs.Common.{rules, []}
-use Rattle.flume_actions.specs.Callers.{HasMadeCalls}
+use Rattle.flume.specs.Callers.{HasMadeCalls}
 use Rattle.flume_laws.proofs.TakeInLemmas.{none_taken_in, split_off, take_in_sender}
 use Rattle.flume_laws.proofs.GoOnLemmas.{go_on_sender, take_in_further_receiver, one_behind_two}
 use Rattle.example_transfers.specs.Phases.{HasSentInPhases}

@@ -1,6 +1,6 @@
 use Rattle.std.proofs.Common.{refl, arith}
 use Rattle.std.proofs.lemmas.Grind.{common_steps}
-use Rattle.flume_actions.proofs.CallerLemmas.{no_call, and_call}
+use Rattle.flume_laws.proofs.CallerLemmas.{no_call, and_call}
 use Rattle.example_transfers.proofs.phases.send_all.Goals as goal
 
 pub loop-item-init : goal.loop-item-init

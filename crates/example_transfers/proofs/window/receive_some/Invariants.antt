@@ -1,5 +1,5 @@
 use Rattle.std.proofs.Common.{◌≡◌, [], length}
-use Rattle.flume_actions.specs.Callers.{HasMadeCalls}
+use Rattle.flume.specs.Callers.{HasMadeCalls}
 use Rattle.example_transfers.proofs.window.receive_some.Given as goal
 
 -- what was received is in the list

@@ -1,5 +1,5 @@
 use Rattle.std.proofs.Common.{rules, [], ap, sym, ◌∙◌}
-use Rattle.flume_actions.specs.Callers.{HasMadeCalls}
+use Rattle.flume.specs.Callers.{HasMadeCalls}
 use Rattle.flume_laws.proofs.TakeInLemmas.{none_taken_in, split_off, take_in_sender}
 use Rattle.flume_laws.proofs.TakeInLemmas.{take_in_receiver, exchanged_so_far, left_within}
 use Rattle.example_transfers.proofs.window.window_named.Goals as goal

@@ -1,7 +1,7 @@
 -- Reply by reply.
 use Rattle.std.proofs.Common.{◌≡◌, ℕ, Bool, true, false, refl, sym, ap, subst, Ok, ◌||◌}
-use Rattle.flume_model.specs.declared.step.Reply.{Reply}
-use Rattle.flume_model.specs.declared.step.Reply.TheVariants as reply
+use Rattle.flume.specs.declared.step.Reply.{Reply}
+use Rattle.flume.specs.declared.step.Reply.TheVariants as reply
 use Rattle.flume_calls.specs.ReceiveTurns.{after_try_recv, after_recv, after_poll, after_withdraw, GivesNone}
 use Rattle.flume_calls.specs.declared.calls.receive.RecvNext.{RecvNext}
 use Rattle.flume_calls.specs.declared.calls.receive.RecvNext.TheVariants.{Done}

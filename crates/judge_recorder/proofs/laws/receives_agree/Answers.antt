@@ -1,9 +1,9 @@
 -- Reply by reply.
 use Rattle.std.proofs.Common.{◌≡◌, ℕ, true, false, refl, sym, ap, Some, Result, if◌then◌else◌}
-use Rattle.flume_model.specs.declared.step.Reply.{Reply}
-use Rattle.flume_model.specs.declared.step.Reply.TheVariants as reply
-use Rattle.flume_model.specs.declared.step.Step.TheVariants.{PollSend, Poll}
-use Rattle.flume_core.specs.declared.error.RecvTimeoutError.{RecvTimeoutError}
+use Rattle.flume.specs.declared.step.Reply.{Reply}
+use Rattle.flume.specs.declared.step.Reply.TheVariants as reply
+use Rattle.flume.specs.declared.step.Step.TheVariants.{PollSend, Poll}
+use Rattle.flume.specs.declared.error.RecvTimeoutError.{RecvTimeoutError}
 use Rattle.flume_calls.specs.ReceiveTurns.{after_try_recv, after_recv, after_poll, after_withdraw}
 use Rattle.flume_calls.specs.ReceiveGates.{got_or_no_memory}
 use Rattle.flume_calls.specs.declared.calls.receive.RecvNext.{RecvNext}

@@ -1,10 +1,10 @@
 -- Reply by reply.
 use Rattle.std.proofs.Common.{◌≡◌, ℕ, true, false, refl, sym, ap, ◌∙◌, Option, Some, if◌then◌else◌}
-use Rattle.flume_model.specs.declared.step.Reply.{Reply}
-use Rattle.flume_model.specs.declared.step.Reply.TheVariants as reply
-use Rattle.flume_model.specs.declared.step.Step.TheVariants.{PollSend, Poll}
-use Rattle.flume_model.specs.Channel.{Channel}
-use Rattle.flume_model.specs.Replies.{IsReply}
+use Rattle.flume.specs.declared.step.Reply.{Reply}
+use Rattle.flume.specs.declared.step.Reply.TheVariants as reply
+use Rattle.flume.specs.declared.step.Step.TheVariants.{PollSend, Poll}
+use Rattle.flume.specs.Channel.{Channel}
+use Rattle.flume.specs.Replies.{IsReply}
 use Rattle.flume_calls.specs.SendTurns.{after_try_send, after_send, after_poll_send, after_withdraw_send}
 use Rattle.flume_calls.specs.declared.calls.send.SendNext.{SendNext}
 use Rattle.judge_calls.specs.declared.call.Call.{Call}

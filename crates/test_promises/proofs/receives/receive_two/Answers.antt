@@ -1,5 +1,5 @@
 use Rattle.std.proofs.Common.{refl}
-use Rattle.flume_actions.proofs.CallerLemmas.{no_call, and_call}
+use Rattle.flume_laws.proofs.CallerLemmas.{no_call, and_call}
 use Rattle.flume_laws.proofs.ConfirmLemmas.{confirmed}
 use Rattle.test_promises.proofs.receives.receive_two.Goals as goal
 
