@@ -1,6 +1,6 @@
 //! A wake before a wait, before its sleep, or in its sleep. A wait with a deadline reads its clock
 //! as it has found no wake, once it has let go of its lock to sleep, and as its sleep ends: there
-//! the clock of this test fires. A wait without a deadline reads no clock: see `tools/idle`.
+//! the clock of this test fires. A wait without a deadline reads no clock: see `tools/gate/idle`.
 use crate::fixtures::{is, start_watchdog};
 use flume::signal::Parker;
 use std::io;
