@@ -1,5 +1,5 @@
-//! Tests of `flume_core` and `flume_script` that a script of `core_scripts` can't say: ends dropped
-//! anywhere, messages that aren't numbers, texts of errors, and which texts are scripts.
+//! Tests of `flume_core` and `flume_script` that no script of `tools/scripts/core` can say: ends
+//! dropped anywhere, messages that aren't numbers, texts of errors, and which texts are scripts.
 #![tactic(auto)]
 
 #[cfg(test)]

@@ -1,6 +1,6 @@
 //! Tests of the ends of `flume`: builders, lists, why an iterator ended, messages that hold an end,
 //! which types go into a thread, what executors poll, and threads with memory refused at random.
-//! Most of what ends do to channels of numbers is text: `end_scripts`, `thread_scripts`.
+//! Most of what ends do to channels of numbers is text: `tools/scripts`.
 #![tactic(auto)]
 
 #[cfg(test)]

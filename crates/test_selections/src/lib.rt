@@ -1,5 +1,5 @@
 //! Tests of selectors, and of the parker that a selector sleeps on. Most of what scripts can say is
-//! in `end_scripts`, and with threads in `thread_scripts`.
+//! in `tools/scripts/ends`, and with threads in `tools/scripts/threads`.
 #![tactic(auto)]
 
 #[cfg(test)]
