@@ -32,6 +32,8 @@ pub(crate) enum Shape {
     CrowdCancel,
     CrowdSend,
     CrowdFutures,
+    FloorLock,
+    FloorLine,
 }
 
 // The capacities at which a shape doesn't wait for ever.
@@ -73,6 +75,8 @@ const SHAPES: &[(&str, Shape, At)] = &[
     ("crowd_cancel", Shape::CrowdCancel, At::AboveZero),
     ("crowd_send", Shape::CrowdSend, At::AboveZero),
     ("crowd_futures", Shape::CrowdFutures, At::AboveZero),
+    ("floor_lock", Shape::FloorLock, At::Unbounded),
+    ("floor_line", Shape::FloorLine, At::Unbounded),
 ];
 
 impl At {

@@ -106,6 +106,7 @@ impl<R: Runtime + RandomSource> Bench<R> {
             Shape::AsyncJoin => self.async_join(),
             Shape::AsyncPing => self.async_ping(),
             Shape::SelectRx => self.select_rx(),
+            Shape::FloorLine => self.floor_line(),
             _ => self.in_one_thread(shape, task, start),
         }
     }
@@ -123,6 +124,7 @@ impl<R: Waits> Bench<R> {
             Shape::AuditPair => self.audit_pair(),
             Shape::CheckPair => Ok(self.check_pair(start)),
             Shape::SelectSeq => Ok(self.select_seq()),
+            Shape::FloorLock => Ok(self.floor_lock()),
             Shape::CrowdPoll
             | Shape::CrowdRandom
             | Shape::CrowdWithdraw

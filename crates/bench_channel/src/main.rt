@@ -7,6 +7,7 @@ mod bench;
 mod by_hand;
 mod crowds;
 mod fault;
+mod floor;
 mod loops;
 mod many;
 mod one_thread;
@@ -66,7 +67,12 @@ crowd_cancel    a blocked send in the middle is withdrawn, and another blocks
 crowd_send      a message is sent, the receiver that it fills is told and takes it, and another
                 parks
 crowd_futures   a message is sent, the receive that waited longest is polled and takes it, and
-                another receive is polled, which waits";
+                another receive is polled, which waits
+
+SHAPE without a channel: the least that this machine can do for one message at a time; CAPACITY is
+unbounded
+floor_lock      one thread takes a lock and lets it go, twice
+floor_line      one thread writes 8 bytes into a cache line once it is empty, and another empties it";
 
 fn main(rt: HostRuntime) -> io::Result<ExitCode> {
     match read_arguments(&rt)? {

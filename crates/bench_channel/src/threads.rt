@@ -1,12 +1,15 @@
 //! The shapes in several threads. Making channels and threads is in the time.
 use crate::bench::{Bench, Ends};
 use crate::fault::Fault;
+use crate::floor::fill_each;
 use crate::loops::RECEIVES_FIRST;
 use crate::many::{receive_blocks, send_blocks};
 use crate::one_thread::{receive_each, send_each};
 use crate::polled::to_and_fro;
 use flume::{Receiver, Runtime, Sender, Waits};
 use std::random::RandomSource;
+use std::sync::Arc;
+use std::sync::atomic::AtomicU64;
 use std::thread;
 use std::thread::JoinHandle;
 
@@ -18,6 +21,8 @@ pub(crate) enum Work<R: Waits> {
     ReceivesMany(Receiver<usize, R>),
     /// It sends back what it receives, in a task.
     Echoes(Ends<R>),
+    /// It writes messages into a word, and uses no channel.
+    Fills(Arc<AtomicU64>),
 }
 
 impl<R: Runtime + RandomSource> Work<R> {
@@ -34,6 +39,10 @@ impl<R: Runtime + RandomSource> Work<R> {
             }
             Work::ReceivesMany(rx) => receive_blocks(rt.alloc(), rx, messages),
             Work::Echoes(ends) => to_and_fro(rt, ends, RECEIVES_FIRST, messages).unwrap_or(0),
+            Work::Fills(line) => {
+                fill_each(rt, line, messages);
+                0
+            }
         }
     }
 }
