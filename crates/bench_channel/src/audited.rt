@@ -3,11 +3,10 @@ ghost use Rattle.std.specs.Prelude.{◌≡◌};
 
 use crate::bench::{Bench, begin_anew};
 use crate::fault::Fault;
-use flume::Waits;
-use flume_audit::audit::Audit;
-use flume_audit::seat::Seat;
-use flume_history::check::{Checked, check_history};
-use flume_model::step::{Reply, Step};
+use flume::audit::Audit;
+use flume::seat::Seat;
+use flume::step::{Reply, Step};
+use flume::{Checked, Waits, check_history};
 use std::marker::Brand;
 use std::mem::forget;
 use std::sync::ledger::{Blank, Ledger};

@@ -2,8 +2,8 @@
 use crate::arguments::Shape;
 use crate::bench::{Bench, begin_anew};
 use flume::Waits;
-use flume_core::chan::Chan;
-use flume_model::step::{Kind, Reply};
+use flume::chan::Chan;
+use flume::step::{Kind, Reply};
 use std::mem::forget;
 use std::time::Instant;
 
