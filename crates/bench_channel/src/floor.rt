@@ -1,4 +1,4 @@
-//! The shapes that use no channel: the least that this machine can do for one message at a time.
+//! The shapes that use no channel: what a lock alone, or one cache line alone, takes a message.
 use crate::bench::Bench;
 use crate::fault::Fault;
 use crate::threads::Work;

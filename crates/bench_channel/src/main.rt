@@ -69,10 +69,9 @@ crowd_send      a message is sent, the receiver that it fills is told and takes 
 crowd_futures   a message is sent, the receive that waited longest is polled and takes it, and
                 another receive is polled, which waits
 
-SHAPE without a channel: the least that this machine can do for one message at a time; CAPACITY is
-unbounded
+SHAPE without a channel, to compare with; CAPACITY is unbounded
 floor_lock      one thread takes a lock and lets it go, twice
-floor_line      one thread writes 8 bytes into a cache line once it is empty, and another empties it";
+floor_line      one thread writes 8 bytes into a cache line once it is empty, another empties it";
 
 fn main(rt: HostRuntime) -> io::Result<ExitCode> {
     match read_arguments(&rt)? {
